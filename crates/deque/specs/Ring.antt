@@ -1,0 +1,35 @@
+-- Where the items of a ring lie in its slots, and the list that they are.
+use Prim.Native.Nat.{ℕ, _+_, _-_, _%_, min}
+use mathlib.Core.List.{List, _++_}
+use lib.ListN.{take, drop, length}
+use Rattle.std.specs.declared.option.Option.{Option}
+use Rattle.fault.specs.declared.Fault.{Fault}
+use Rattle.deque.specs.declared.places.Places.{Places}
+
+-- the slot of item i
+abbrev pub slot : Places → ℕ → ℕ
+slot p i = (p .front + i) % p .capacity
+
+-- the slot before the front
+abbrev pub before : Places → ℕ
+before p = (p .front + p .capacity - 1) % p .capacity
+
+-- how many items lie from the front slot on; the others begin at slot 0
+abbrev pub high : Places → ℕ
+high p = min (p .len) (p .capacity - p .front)
+
+abbrev pub low : Places → ℕ
+low p = p .len - high p
+
+module _ {T : Type 0} where
+  -- the list of a ring in two parts of its slots
+  abbrev pub slices : Places → List T → List T × List T
+  slices p xs = (take (high p) (drop (p .front) xs), take (low p) xs)
+
+  -- the list of a ring, from the front to the back
+  unfoldable pub contents : Places → List T → List T
+  contents p xs = slices p xs .0 ++ slices p xs .1
+
+  -- a refusal at a ring: it is fed the capacity, the number of slots lent, and the length
+  abbrev pub at : Places → List T → ((capacity lent len : ℕ) → Option Fault) → Option Fault
+  at p xs refusal = refusal (p .capacity) (length xs) (p .len)

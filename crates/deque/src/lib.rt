@@ -1,0 +1,15 @@
+// A double-ended queue of fixed capacity, a ring over slots that its caller lends to each call.
+pub mod deque;
+pub mod places;
+pub mod walk;
+
+pub use deque::CloseToken;
+pub use deque::Deque;
+pub use deque::closing::Unclosed;
+pub use deque::ends::MAX_CAPACITY;
+pub use places::Places;
+pub use places::PlacesDebug;
+pub use places::PlacesPartialEq;
+pub use walk::Iter;
+pub use walk::IterDoubleEndedIterator;
+pub use walk::IterIterator;

@@ -1,0 +1,47 @@
+// What a call answered.
+use fault::Fault;
+use fault::Returned;
+
+#[derive(Clone, Copy)]
+pub enum Answer {
+    Done,
+    Item(Option<u8>),
+    Number(usize),
+    Flag(bool),
+    Refused(Fault),
+}
+
+pub fn done(answer: Result<(), Fault>) -> Answer {
+    match answer {
+        Ok(()) => Answer::Done,
+        Err(fault) => Answer::Refused(fault),
+    }
+}
+
+pub fn pushed(answer: Result<(), Returned<u8>>) -> Answer {
+    match answer {
+        Ok(()) => Answer::Done,
+        Err(returned) => Answer::Refused(returned.fault),
+    }
+}
+
+pub fn item(answer: Result<Option<u8>, Fault>) -> Answer {
+    match answer {
+        Ok(item) => Answer::Item(item),
+        Err(fault) => Answer::Refused(fault),
+    }
+}
+
+pub fn number(answer: Result<usize, Fault>) -> Answer {
+    match answer {
+        Ok(number) => Answer::Number(number),
+        Err(fault) => Answer::Refused(fault),
+    }
+}
+
+pub fn flag(answer: Result<bool, Fault>) -> Answer {
+    match answer {
+        Ok(flag) => Answer::Flag(flag),
+        Err(fault) => Answer::Refused(fault),
+    }
+}

@@ -1,0 +1,60 @@
+// Carrying out one call.
+ghost use mathlib.Core.Path.{_≡_};
+use crate::answer;
+use crate::answer::Answer;
+use bins::Tray;
+use bins::TrayBin;
+use deque::Deque;
+use script::End;
+use script::Indexed;
+use script::Plain;
+
+// Each keeps the ring's capacity, so that the slots still suffice to close it.
+pub fn plain(ring: &mut Deque, slots: &mut [u8], bin: &mut Tray<u8>, call: Plain) -> Answer
+    ensures { λ _. ⌜ now (ring .exit) .places .capacity ≡ now (ring .entry) .places .capacity ⌝ }
+{
+    match call {
+        Plain::PopFront => answer::item(ring.pop_front(slots)),
+        Plain::PopBack => answer::item(ring.pop_back(slots)),
+        Plain::Front => answer::item(ring.front(slots)),
+        Plain::Back => answer::item(ring.back(slots)),
+        Plain::Len => answer::number(ring.len(slots)),
+        Plain::Capacity => answer::number(ring.capacity(slots)),
+        Plain::IsEmpty => answer::flag(ring.is_empty(slots)),
+        Plain::IsFull => answer::flag(ring.is_full(slots)),
+        Plain::Clear => answer::number(ring.clear(slots, bin)),
+        Plain::Slices | Plain::Iter | Plain::Close | Plain::Draw => Answer::Done,
+    }
+}
+
+pub fn indexed(
+    ring: &mut Deque,
+    slots: &mut [u8],
+    bin: &mut Tray<u8>,
+    call: Indexed,
+    i: usize,
+) -> Answer
+    ensures { λ _. ⌜ now (ring .exit) .places .capacity ≡ now (ring .entry) .places .capacity ⌝ }
+{
+    match call {
+        Indexed::Get => answer::item(ring.get(slots, i)),
+        Indexed::Truncate => answer::number(ring.truncate(slots, i, bin)),
+        Indexed::SwapRemoveFront => answer::item(ring.swap_remove_front(slots, i)),
+        Indexed::SwapRemoveBack => answer::item(ring.swap_remove_back(slots, i)),
+    }
+}
+
+pub fn push(ring: &mut Deque, slots: &mut [u8], end: End, item: u8) -> Answer
+    ensures { λ _. ⌜ now (ring .exit) .places .capacity ≡ now (ring .entry) .places .capacity ⌝ }
+{
+    match end {
+        End::Front => answer::pushed(ring.push_front(slots, item)),
+        End::Back => answer::pushed(ring.push_back(slots, item)),
+    }
+}
+
+pub fn load(ring: &mut Deque, slots: &mut [u8], items: &[u8]) -> Answer
+    ensures { λ _. ⌜ now (ring .exit) .places .capacity ≡ now (ring .entry) .places .capacity ⌝ }
+{
+    answer::done(ring.load(slots, items))
+}

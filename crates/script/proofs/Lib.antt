@@ -1,0 +1,5 @@
+mod Arity
+mod Collecting
+mod Digits
+mod Lookup
+mod Wording
