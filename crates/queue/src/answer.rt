@@ -11,35 +11,35 @@ pub enum Answer {
     Refused(Fault),
 }
 
-pub fn done(answer: Result<(), Fault>) -> Answer {
+pub(crate) fn done(answer: Result<(), Fault>) -> Answer {
     match answer {
         Ok(()) => Answer::Done,
         Err(fault) => Answer::Refused(fault),
     }
 }
 
-pub fn pushed(answer: Result<(), Returned<u8>>) -> Answer {
+pub(crate) fn pushed(answer: Result<(), Returned<u8>>) -> Answer {
     match answer {
         Ok(()) => Answer::Done,
         Err(returned) => Answer::Refused(returned.fault),
     }
 }
 
-pub fn item(answer: Result<Option<u8>, Fault>) -> Answer {
+pub(crate) fn item(answer: Result<Option<u8>, Fault>) -> Answer {
     match answer {
         Ok(item) => Answer::Item(item),
         Err(fault) => Answer::Refused(fault),
     }
 }
 
-pub fn number(answer: Result<usize, Fault>) -> Answer {
+pub(crate) fn number(answer: Result<usize, Fault>) -> Answer {
     match answer {
         Ok(number) => Answer::Number(number),
         Err(fault) => Answer::Refused(fault),
     }
 }
 
-pub fn flag(answer: Result<bool, Fault>) -> Answer {
+pub(crate) fn flag(answer: Result<bool, Fault>) -> Answer {
     match answer {
         Ok(flag) => Answer::Flag(flag),
         Err(fault) => Answer::Refused(fault),

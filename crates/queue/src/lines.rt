@@ -31,7 +31,7 @@ fn line_length(text: &[u8]) -> usize
 }
 
 impl<'a> Lines<'a> {
-    pub fn new(text: &'a [u8]) -> Lines<'a> {
+    pub(crate) fn new(text: &'a [u8]) -> Lines<'a> {
         Lines {
             rest: text,
             number: 0,

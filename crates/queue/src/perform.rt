@@ -10,7 +10,7 @@ use script::Indexed;
 use script::Plain;
 
 // Each keeps the ring's capacity, so that the slots still suffice to close it.
-pub fn plain(ring: &mut Deque, slots: &mut [u8], bin: &mut Tray<u8>, call: Plain) -> Answer
+pub(crate) fn plain(ring: &mut Deque, slots: &mut [u8], bin: &mut Tray<u8>, call: Plain) -> Answer
     ensures { λ _. ⌜ now (ring .exit) .places .capacity ≡ now (ring .entry) .places .capacity ⌝ }
 {
     match call {
@@ -27,7 +27,7 @@ pub fn plain(ring: &mut Deque, slots: &mut [u8], bin: &mut Tray<u8>, call: Plain
     }
 }
 
-pub fn indexed(
+pub(crate) fn indexed(
     ring: &mut Deque,
     slots: &mut [u8],
     bin: &mut Tray<u8>,
@@ -44,7 +44,7 @@ pub fn indexed(
     }
 }
 
-pub fn push(ring: &mut Deque, slots: &mut [u8], end: End, item: u8) -> Answer
+pub(crate) fn push(ring: &mut Deque, slots: &mut [u8], end: End, item: u8) -> Answer
     ensures { λ _. ⌜ now (ring .exit) .places .capacity ≡ now (ring .entry) .places .capacity ⌝ }
 {
     match end {
@@ -53,7 +53,7 @@ pub fn push(ring: &mut Deque, slots: &mut [u8], end: End, item: u8) -> Answer
     }
 }
 
-pub fn load(ring: &mut Deque, slots: &mut [u8], items: &[u8]) -> Answer
+pub(crate) fn load(ring: &mut Deque, slots: &mut [u8], items: &[u8]) -> Answer
     ensures { λ _. ⌜ now (ring .exit) .places .capacity ≡ now (ring .entry) .places .capacity ⌝ }
 {
     answer::done(ring.load(slots, items))

@@ -225,7 +225,7 @@ fn ending(rt: &LibcRuntime, lines: &mut Lines) -> Result<(), AnyError> {
     Ok(())
 }
 
-pub fn run(rt: &LibcRuntime) -> Result<(), AnyError> {
+pub(crate) fn run(rt: &LibcRuntime) -> Result<(), AnyError> {
     let mut input = Vec::new(rt.alloc());
     rt.stdin().read_to_end(&mut input)?;
     let mut lines = Lines::new(input.as_slice());
