@@ -7,7 +7,7 @@ use native.Mathlib.Nat.{mod-lt, mod-add-mod, add-mod-right}
 use native.Mathlib.Omega.{arith}
 use lib.ListN.{length, getD, set, take, drop, length-append, length-take, length-drop, length-set}
 use Rattle.std.proofs.shelf.Lists.{same-lists, getD-append-left, getD-append-right, getD-take, getD-drop, getD-set-same, getD-set-other, getD-push, length-push, drop-more, drop-all, take-all}
-use Rattle.std.proofs.shelf.Maps.{nth-read, nth-past}
+use Rattle.std.proofs.shelf.Maps.{nth-read, nth-getD, nth-past}
 use Rattle.std.proofs.shelf.Tests.{cases-lt, cases-eq}
 use Rattle.std.specs.Finite.{nth}
 use Rattle.std.specs.Iters.{folded}
@@ -191,6 +191,12 @@ module _ {T : Type 0} (p : Places) (xs : List T) (ok : Sound p) (enough : p .cap
   nth-contents i x h e =
       let size = length-contents p xs ok enough in
       nth-read (contents p xs) (p .len) i x (sym size) h (e ∙ sym (contents-at p xs ok enough i x h))
+
+  -- item i, whatever would be read past the end
+  pub nth-contents-at : (i k : ℕ) (d : T) → i < p .len → k ≡ slot p i → nth (contents p xs) i ≡ Some (getD xs k d)
+  nth-contents-at i k d h e =
+      let b : i < length (contents p xs) = omega (arith, length-contents p xs ok enough) in
+      nth-getD (contents p xs) i d b ∙ ap (λ x. Some x) (contents-at p xs ok enough i d h ∙ ap (λ j. getD xs j d) (sym e))
 
   pub nth-contents-past : (i : ℕ) → p .len ≤ i → nth (contents p xs) i ≡ None
   nth-contents-past i h = nth-past (contents p xs) i (omega (arith, length-contents p xs ok enough))

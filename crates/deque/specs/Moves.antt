@@ -1,10 +1,10 @@
 -- Where each accepted call leaves the front and the length.
 use Prim.Native.Nat.{ℕ, _+_, _-_, min}
-use mathlib.Core.Bool.{cond}
+use mathlib.Core.Bool.{Bool, cond}
 use lib.Dec.{ltb, eqb}
 use Rattle.deque.specs.declared.places.Places.{Places}
 use Rattle.deque.specs.Sound.{most}
-use Rattle.deque.specs.Ring.{slot, before}
+use Rattle.deque.specs.Ring.{slot, before, new-front}
 
 -- the same slots, with another front and length
 abbrev pub placed : Places → (front len : ℕ) → Places
@@ -41,3 +41,17 @@ truncate n p = placed p (p .front) (min n (p .len))
 
 abbrev pub clear : Places → Places
 clear p = placed p 0 0
+
+-- a pop that a predicate said yes or no to
+abbrev pub popFrontIf : Bool → Places → Places
+popFrontIf yes-said p = cond yes-said (popFront p) p
+
+abbrev pub popBackIf : Bool → Places → Places
+popBackIf yes-said p = cond yes-said (popBack p) p
+
+-- so many items are kept
+abbrev pub retain : (kept : ℕ) → Places → Places
+retain kept p = placed p (p .front) kept
+
+abbrev pub makeContiguous : Places → Places
+makeContiguous p = placed p (new-front p) (p .len)

@@ -1,6 +1,6 @@
 -- What each accepted call is on the plain list, front to back, and what each read answers of it.
 use Prim.Native.Nat.{ℕ, _-_}
-use mathlib.Core.Bool.{cond}
+use mathlib.Core.Bool.{Bool, cond}
 use mathlib.Core.List.{List, _++_, _∷_, []}
 use lib.Dec.{ltb}
 use lib.ListN.{take, drop, length}
@@ -8,6 +8,8 @@ use Rattle.std.specs.Finite.{nth}
 use Rattle.std.specs.Holes.{exchanged}
 use Rattle.std.specs.declared.option.Option.{Option}
 use Rattle.std.specs.declared.option.Option.the-variants.{None}
+use Rattle.predicates.specs.Showing.{Shown, answered, yes-to, left, stored, showings}
+use Rattle.deque.specs.Sifting.{kept, rest}
 
 -- an edit's answer, the list after it, and the items that it bins, in their order
 pub record Edit (A T : Type 0) : Type 0 where
@@ -65,3 +67,24 @@ module _ {T : Type 0} where
 
   abbrev pub back : List T → Option T
   back l = get (length l - 1) l
+
+-- An item, or each, is shown to a predicate with this rule, in the state s.
+module _ {S T : Type 0} (rule : S → T → Shown S T) (s : S) where
+  -- item i is stored as the predicate leaves it
+  abbrev pub change : ℕ → List T → Edit (Option Bool) T
+  change i l = edited (answered rule s (get i l)) (stored (left rule s (get i l)) i l)
+
+  -- the item at an end is stored so, and a yes pops it; after a no the change remains
+  abbrev pub popFrontIf : List T → Edit (Option T) T
+  popFrontIf l =
+      let after : List T = stored (left rule s (front l)) 0 l in
+      cond (yes-to rule s (front l)) (popFront after) (edited None after)
+
+  abbrev pub popBackIf : List T → Edit (Option T) T
+  popBackIf l =
+      let after : List T = stored (left rule s (back l)) (length l - 1) l in
+      cond (yes-to rule s (back l)) (popBack after) (edited None after)
+
+  -- each is shown, in order
+  abbrev pub retain : List T → Edit ℕ T
+  retain l = parted (kept (showings rule s l)) (rest (showings rule s l))

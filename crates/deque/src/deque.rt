@@ -3,10 +3,13 @@ ghost use Rattle.deque.specs.Sound.{Sound};
 use crate::places::Places;
 
 pub mod closing;
+mod contiguous;
 pub mod ends;
 mod loading;
 mod reads;
+mod retaining;
 mod swaps;
+mod tested;
 
 // A ring is its places; the items lie in slots that are lent to each call.
 pub struct Deque {

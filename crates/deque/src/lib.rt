@@ -1,6 +1,7 @@
 // A double-ended queue of fixed capacity, a ring over slots that its caller lends to each call.
 pub mod deque;
 pub mod places;
+mod rotation;
 pub mod walk;
 
 pub use deque::CloseToken;
