@@ -1,5 +1,5 @@
 #!/usr/bin/env python3
-"""What the program `queue` should print for a script, worked out from docs/RING.md, docs/BINS.md and docs/QUEUE.md.
+"""What the program `queue` should print for a script, worked out from docs/RING.md, docs/PREDICATES.md, docs/BINS.md and docs/QUEUE.md.
 
 It shares no code with the program. It keeps the slots in a plain list and finds the slot of an item by a remainder.
 """
@@ -98,6 +98,32 @@ class Ring:
         self.front = 0
         return gone
 
+    def change(self, i, test):
+        if i >= self.len:
+            return None
+        yes, self.slots[self.slot(i)] = test(self.slots[self.slot(i)])
+        return yes
+
+    def pop_if(self, i, test, pop):
+        return pop() if self.change(i, test) else None
+
+    def retain(self, test):
+        yeses = 0
+        for i in range(self.len):
+            if self.change(i, test):
+                if yeses < i:
+                    self.swap(yeses, i)
+                yeses += 1
+        return self.truncate(yeses)
+
+    def make_contiguous(self):
+        items, n, h = self.items(), self.len, self.n - self.front
+        t, e = n - h, self.n - n
+        if self.front > e:
+            self.front = 0 if e >= h else t if e >= t else e if h > t else 0
+            self.slots[self.front:self.front + n] = items
+        return f"{n} items from slot {self.front} on"
+
     def drawing(self):
         held = {self.slot(i) for i in range(self.len)}
         return "".join(" " + (">" if k == self.front else "") + (str(x) if k in held else ".") for k, x in enumerate(self.slots))
@@ -128,6 +154,23 @@ def operands(words, count, most):
     return [number(words, k + 1, most) for k in range(count)]
 
 
+def predicate(kind, words, place):
+    """A function from an item to yes or no and the item after."""
+    if kind == "mask":
+        if any(c not in "01" for c in words[place - 1]):
+            raise NotDone(f"word {place} after the name is no mask of 0 and 1")
+        flags = iter(words[place - 1])
+        return lambda x: (next(flags, "0") == "1", x)
+    given = number(words, place, 255)
+    if kind == "at_least":
+        return lambda x: (x >= given, x)
+    return lambda x: (x + given <= 255, (x + given) % 256)
+
+
+def verdict(x):
+    return None if x is None else "yes" if x else "no"
+
+
 def done(call):
     return lambda *args: "ok" if call(*args) is None else "?"
 
@@ -141,7 +184,10 @@ def perform(ring, name, words):
         "len": lambda: ring.len, "capacity": lambda: ring.n,
         "is_empty": lambda: ring.len == 0, "is_full": lambda: ring.len == ring.n,
         "slices": lambda: "ok", "iter": lambda: "ok", "draw": lambda: "ok",
+        "make_contiguous": ring.make_contiguous,
     }
+    ends = {"pop_front_if_": (0, ring.pop_front), "pop_back_if_": (max(ring.len, 1) - 1, ring.pop_back)}
+    tested = next((prefix for prefix in [*ends, "retain_"] if name.startswith(prefix)), None)
     indexed = {
         "get": ring.get, "truncate": ring.truncate,
         "swap_remove_front": lambda i: ring.swap_remove(i, 0, ring.pop_front),
@@ -153,6 +199,18 @@ def perform(ring, name, words):
         answer = done(ring.load)([number(words, k + 1, item) for k in range(len(words))])
     elif name == "swap":
         answer = done(ring.swap)(*operands(words, 2, index))
+    elif tested:
+        if len(words) != 1:
+            operands(words, 1, index)
+        test = predicate(name.removeprefix(tested), words, 1)
+        answer = ring.retain(test) if tested == "retain_" else ring.pop_if(ends[tested][0], test, ends[tested][1])
+    elif name == "change":
+        if len(words) != 3:
+            operands(words, 3, index)
+        i = number(words, 1, index)
+        if words[1] not in KINDS:
+            raise NotDone("word 2 after the name is no predicate")
+        answer = verdict(ring.change(i, predicate(words[1], words, 3)))
     elif name in indexed:
         answer = indexed[name](*operands(words, 1, index))
     else:
@@ -164,24 +222,34 @@ def perform(ring, name, words):
     return answer, "  " + ring.drawing() if name == "draw" else None
 
 
+KINDS = ["at_least", "adding", "mask"]
 NAMES = """capacity load push_back push_front pop_front pop_back get front back len is_empty is_full slices iter
-swap swap_remove_front swap_remove_back truncate clear close draw""".split()
+swap swap_remove_front swap_remove_back truncate make_contiguous change clear close draw""".split()
+NAMES += [f"{call}_{kind}" for call in ("pop_front_if", "pop_back_if", "retain") for kind in KINDS]
 
 
 def check(name, words):
     """The mistakes of a line that does not reach a ring."""
     if name not in NAMES:
         raise NotDone("no call has this name")
-    perform_on = Ring(0)
     if name == "close":
         operands(words, 0, 0)
     elif name == "capacity" and words:
         operands(words, 1, 2**64 - 1)
     else:
         try:
-            perform(perform_on, name, words)
+            perform(Ring(0), name, words)
         except Refused:
             pass
+
+
+def told(n, text, answer, ring):
+    first, second = ring.slices()
+    print(f"{n}: {text} -> {answer} |{listed(first)} /{listed(second)}")
+
+
+def binned(ring):
+    print(f"bin {len(ring.taken)}:{listed(ring.taken[:TRAY])}")
 
 
 def main():
@@ -191,7 +259,6 @@ def main():
         if not words or words[0].startswith("#"):
             continue
         name, words = words[0], words[1:]
-        under = None
         try:
             check(name, words)
             if closed:
@@ -199,28 +266,26 @@ def main():
             if name == "capacity" and words:
                 if ring:
                     raise NotDone("there is a ring already")
-                ring, answer = Ring(int(words[0])), "ok"
+                ring = Ring(int(words[0]))
+                told(n, text, "ok", ring)
             elif ring is None:
                 raise NotDone("there is no ring yet: begin with a capacity")
             elif name == "close":
-                answer, closed = ring.clear(), True
+                closed = True
+                told(n, text, ring.clear(), ring)
+                binned(ring)
             else:
                 answer, under = perform(ring, name, words)
-            first, second = ring.slices()
-            print(f"{n}: {text} -> {shown(answer)} |{listed(first)} /{listed(second)}")
+                told(n, text, shown(answer), ring)
+                if under:
+                    print(under)
         except NotDone as why:
             print(f"{n}: {text} -> not done: {why}")
         except Refused as fault:
-            first, second = ring.slices()
-            print(f"{n}: {text} -> {fault} |{listed(first)} /{listed(second)}")
-        if under:
-            print(under)
-        if closed and name == "close" and answer is not None:
-            print(f"bin {len(ring.taken)}:{listed(ring.taken[:TRAY])}")
-            answer = None
+            told(n, text, fault, ring)
     if ring and not closed:
         print(f"end of the script -> {ring.clear()} | /")
-        print(f"bin {len(ring.taken)}:{listed(ring.taken[:TRAY])}")
+        binned(ring)
 
 
 main()

@@ -7,3 +7,4 @@ pub mod Moves
 pub mod Writes
 pub mod Walks
 pub mod Closing
+pub mod Rows

@@ -2,6 +2,7 @@
 pub mod deque;
 pub mod places;
 mod rotation;
+pub mod rows;
 pub mod walk;
 
 pub use deque::CloseToken;
@@ -11,6 +12,7 @@ pub use deque::ends::MAX_CAPACITY;
 pub use places::Places;
 pub use places::PlacesDebug;
 pub use places::PlacesPartialEq;
+pub use rows::rows_hold;
 pub use walk::Iter;
 pub use walk::IterDoubleEndedIterator;
 pub use walk::IterIterator;

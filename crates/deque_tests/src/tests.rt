@@ -20,7 +20,7 @@ use fault::ReturnedPartialEq;
 use std::test::*;
 
 // Ends a ring that has all its slots.
-fn close(ring: Deque, token: CloseToken, slots: &[u8], bin: &mut Tray<u8>) -> usize
+pub(crate) fn close(ring: Deque, token: CloseToken, slots: &[u8], bin: &mut Tray<u8>) -> usize
     requires { ⌜ ring .places .capacity ≤ length (now slots) ⌝ }
 {
     match ring.close(token, slots, bin) {

@@ -8,6 +8,10 @@ pub enum Answer {
     Item(Option<u8>),
     Number(usize),
     Flag(bool),
+    // what a predicate said of an item, if there was one
+    Verdict(Option<bool>),
+    // where the list begins, and how long it is
+    Part(usize, usize),
     Refused(Fault),
 }
 
@@ -42,6 +46,20 @@ pub(crate) fn number(answer: Result<usize, Fault>) -> Answer {
 pub(crate) fn flag(answer: Result<bool, Fault>) -> Answer {
     match answer {
         Ok(flag) => Answer::Flag(flag),
+        Err(fault) => Answer::Refused(fault),
+    }
+}
+
+pub(crate) fn verdict(answer: Result<Option<bool>, Fault>) -> Answer {
+    match answer {
+        Ok(verdict) => Answer::Verdict(verdict),
+        Err(fault) => Answer::Refused(fault),
+    }
+}
+
+pub(crate) fn part(answer: Result<(usize, usize), Fault>) -> Answer {
+    match answer {
+        Ok((front, len)) => Answer::Part(front, len),
         Err(fault) => Answer::Refused(fault),
     }
 }

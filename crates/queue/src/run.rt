@@ -106,7 +106,12 @@ fn draw(rt: &LibcRuntime, ring: &Deque, slots: &[u8]) -> io::Result<()> {
     }
 }
 
-fn act(ring: &mut Deque, slots: &mut [u8], bin: &mut Tray<u8>, command: &Command<Vec<u8>>) -> Answer
+fn act(
+    ring: &mut Deque,
+    slots: &mut [u8],
+    bin: &mut Tray<u8>,
+    command: &Command<Vec<u8>, Vec<bool>>,
+) -> Answer
     ensures { λ _. ⌜ now (ring .exit) .places .capacity ≡ now (ring .entry) .places .capacity ⌝ }
 {
     match command {
@@ -116,6 +121,9 @@ fn act(ring: &mut Deque, slots: &mut [u8], bin: &mut Tray<u8>, command: &Command
         Command::Push(end, item) => perform::push(ring, slots, *end, *item),
         Command::Swap(i, j) => answer::done(ring.swap(slots, *i, *j)),
         Command::Load(items) => perform::load(ring, slots, items.as_slice()),
+        Command::Retain(test) => perform::retain(ring, slots, bin, test),
+        Command::PopIf(end, test) => perform::pop_if(ring, slots, *end, test),
+        Command::Change(i, test) => perform::change(ring, slots, *i, test),
     }
 }
 
@@ -126,7 +134,7 @@ fn step(
     ring: &mut Deque,
     slots: &mut [u8],
     bin: &mut Tray<u8>,
-    command: Command<Vec<u8>>,
+    command: Command<Vec<u8>, Vec<bool>>,
 ) -> Result<(), AnyError>
     ensures { λ _. ⌜ now (ring .exit) .places .capacity ≡ now (ring .entry) .places .capacity ⌝ }
 {

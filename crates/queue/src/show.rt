@@ -11,6 +11,10 @@ pub impl fmt::Display for Answer as AnswerDisplay {
             Answer::Item(None) => f.write_str("none"),
             Answer::Number(number) => write!(f, "{number}"),
             Answer::Flag(flag) => write!(f, "{flag}"),
+            Answer::Verdict(Some(true)) => f.write_str("yes"),
+            Answer::Verdict(Some(false)) => f.write_str("no"),
+            Answer::Verdict(None) => f.write_str("none"),
+            Answer::Part(front, len) => write!(f, "{len} items from slot {front} on"),
             Answer::Refused(fault) => write!(f, "{fault}"),
         }
     }

@@ -13,7 +13,7 @@ use Rattle.script.specs.declared.command.Mistake.{Mistake}
 use Rattle.script.specs.declared.command.Mistake.the-variants.{TooFewNumbers, TooManyNumbers}
 use Rattle.script.specs.declared.command.Plain.the-variants as plain
 use Rattle.script.specs.declared.command.Command.the-variants.{Nothing, Plain, Make}
-use Rattle.script.specs.Commands.{held, max-index, numbered, none, one, two, then, making, asked, command}
+use Rattle.script.specs.Commands.{held, max-index, numbered, none, one, two, then, making, lone, changing, asked, command}
 
 abbrev Words : Type 0
 Words = List (RefT (List ℕ))
@@ -83,3 +83,37 @@ command-none (w ∷ ws) h = absurd (omega arith)
 pub command-some : (ws : Words) (d : RefT (List ℕ)) → (length ws ≡ 0 → ⊥) → command (held ws) ≡ asked (now (getD ws 0 d)) (held (take (length ws - 1) (drop 1 ws)))
 command-some [] d h = absurd (h refl)
 command-some (w ∷ ws) d h = ap (λ (l : Words). asked (now w) (held l)) (sym (take-all (length (w ∷ ws) - 1) ws (omega arith)))
+
+pub lone-few : (ws : Words) → length ws < 1 → Err TooFewNumbers ≡ lone (held ws)
+lone-few [] h = refl
+lone-few (w ∷ ws) h = absurd (omega arith)
+
+pub lone-many : (ws : Words) → 1 < length ws → Err TooManyNumbers ≡ lone (held ws)
+lone-many [] h = absurd (omega arith)
+lone-many (w ∷ []) h = absurd (omega arith)
+lone-many (w ∷ v ∷ ws) h = refl
+
+pub lone-is : (ws : Words) (d : RefT (List ℕ)) → 1 ≤ length ws → length ws ≤ 1 → Ok (now (getD ws 0 d)) ≡ lone (held ws)
+lone-is [] d h m = absurd (omega arith)
+lone-is (w ∷ []) d h m = refl
+lone-is (w ∷ v ∷ ws) d h m = absurd (omega arith)
+
+pub change-few : (ws : Words) → length ws < 3 → changing (held ws) ≡ Err TooFewNumbers
+change-few [] h = refl
+change-few (w ∷ []) h = refl
+change-few (w ∷ v ∷ []) h = refl
+change-few (w ∷ v ∷ u ∷ ws) h = absurd (omega arith)
+
+pub change-many : (ws : Words) → 3 < length ws → changing (held ws) ≡ Err TooManyNumbers
+change-many [] h = absurd (omega arith)
+change-many (w ∷ []) h = absurd (omega arith)
+change-many (w ∷ v ∷ []) h = absurd (omega arith)
+change-many (w ∷ v ∷ u ∷ []) h = absurd (omega arith)
+change-many (w ∷ v ∷ u ∷ t ∷ ws) h = refl
+
+pub change-is : (ws : Words) (a b d : RefT (List ℕ)) → 3 ≤ length ws → length ws ≤ 3 → changing (now (getD ws 0 a) ∷ now (getD ws 1 b) ∷ now (getD ws 2 d) ∷ []) ≡ changing (held ws)
+change-is [] a b d h m = absurd (omega arith)
+change-is (w ∷ []) a b d h m = absurd (omega arith)
+change-is (w ∷ v ∷ []) a b d h m = absurd (omega arith)
+change-is (w ∷ v ∷ u ∷ []) a b d h m = refl
+change-is (w ∷ v ∷ u ∷ t ∷ ws) a b d h m = absurd (omega arith)

@@ -1,5 +1,6 @@
 mod Arity
 mod Collecting
 mod Digits
+mod Flagging
 mod Lookup
 mod Wording

@@ -9,8 +9,10 @@ use Rattle.std.specs.declared.option.Option.the-variants.{Some, None}
 use Rattle.script.specs.declared.command.End.the-variants as end
 use Rattle.script.specs.declared.command.Plain.the-variants as plain
 use Rattle.script.specs.declared.command.Indexed.the-variants as indexed
+use Rattle.script.specs.declared.command.Kind.{Kind}
+use Rattle.script.specs.declared.command.Kind.the-variants as kind
 use Rattle.script.specs.declared.command.Name.{Name}
-use Rattle.script.specs.declared.command.Name.the-variants.{Plain, Indexed, Push, Swap, Load, Capacity}
+use Rattle.script.specs.declared.command.Name.the-variants.{Plain, Indexed, Push, Swap, Load, Capacity, Retain, PopIf, Change}
 
 -- the value beside a word in a table
 abbrev pub lookup : {A : Type 0} → List (List ℕ × A) → List ℕ → Option A
@@ -37,7 +39,22 @@ names =
     ∷ (codes "swap_remove_front", Indexed indexed.SwapRemoveFront)
     ∷ (codes "swap_remove_back", Indexed indexed.SwapRemoveBack)
     ∷ (codes "truncate", Indexed indexed.Truncate)
+    ∷ (codes "make_contiguous", Plain plain.MakeContiguous)
+    ∷ (codes "change", Change)
+    ∷ (codes "pop_front_if_at_least", PopIf end.Front kind.AtLeast)
+    ∷ (codes "pop_front_if_adding", PopIf end.Front kind.Adding)
+    ∷ (codes "pop_front_if_mask", PopIf end.Front kind.Mask)
+    ∷ (codes "pop_back_if_at_least", PopIf end.Back kind.AtLeast)
+    ∷ (codes "pop_back_if_adding", PopIf end.Back kind.Adding)
+    ∷ (codes "pop_back_if_mask", PopIf end.Back kind.Mask)
+    ∷ (codes "retain_at_least", Retain kind.AtLeast)
+    ∷ (codes "retain_adding", Retain kind.Adding)
+    ∷ (codes "retain_mask", Retain kind.Mask)
     ∷ (codes "clear", Plain plain.Clear)
     ∷ (codes "close", Plain plain.Close)
     ∷ (codes "draw", Plain plain.Draw)
     ∷ []
+
+-- the predicates that a change names
+abbrev pub kinds : List (List ℕ × Kind)
+kinds = (codes "at_least", kind.AtLeast) ∷ (codes "adding", kind.Adding) ∷ (codes "mask", kind.Mask) ∷ []

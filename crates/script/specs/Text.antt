@@ -1,6 +1,6 @@
 -- The words and the numbers of a line, which is a list of bytes.
 use Prim.Native.Nat.{ℕ, _+_, _-_, _*_}
-use mathlib.Core.Bool.{Bool, cond, _&&_, _||_}
+use mathlib.Core.Bool.{Bool, true, false, cond, _&&_, _||_}
 use mathlib.Core.List.{List, [], _∷_, _++_}
 use lib.Dec.{eqb, leb}
 use Rattle.std.specs.declared.option.Option.{Option}
@@ -40,3 +40,12 @@ at-most max (Some n) = cond (leb n max) (Some n) None
 abbrev pub number : (max : ℕ) → List ℕ → Option ℕ
 number max [] = None
 number max (c ∷ cs) = at-most max (number-after 0 (c ∷ cs))
+
+abbrev pub flag-before : Bool → Option (List Bool) → Option (List Bool)
+flag-before b None = None
+flag-before b (Some bs) = Some (b ∷ bs)
+
+-- the flags that a word of 0 and 1 writes
+unfoldable pub flags : List ℕ → Option (List Bool)
+flags [] = Some []
+flags (c ∷ cs) = cond (eqb c 48) (flag-before false (flags cs)) (cond (eqb c 49) (flag-before true (flags cs)) None)

@@ -22,6 +22,7 @@ pub enum Plain {
     IsFull,
     Slices,
     Iter,
+    MakeContiguous,
     Clear,
     Close,
     Draw,
@@ -36,6 +37,22 @@ pub enum Indexed {
     SwapRemoveBack,
 }
 
+// The kinds of predicates.
+#[derive(Clone, Copy)]
+pub enum Kind {
+    AtLeast,
+    Adding,
+    Mask,
+}
+
+// A predicate, with what it is given. `F` holds the flags of a mask.
+#[derive(Drop)]
+pub enum Test<F> {
+    AtLeast(u8),
+    Adding(u8),
+    Mask(F),
+}
+
 // The first word of a line.
 #[derive(Clone, Copy)]
 pub enum Name {
@@ -45,11 +62,14 @@ pub enum Name {
     Swap,
     Load,
     Capacity,
+    Retain(Kind),
+    PopIf(End, Kind),
+    Change,
 }
 
-// What a line asks for. `I` holds the items of a load.
+// What a line asks for. `I` holds the items of a load, and `F` the flags of a mask.
 #[derive(Drop)]
-pub enum Command<I> {
+pub enum Command<I, F> {
     // a blank line, or a comment
     Nothing,
     // a ring of so many slots
@@ -59,6 +79,9 @@ pub enum Command<I> {
     Push(End, u8),
     Swap(usize, usize),
     Load(I),
+    Retain(Test<F>),
+    PopIf(End, Test<F>),
+    Change(usize, Test<F>),
 }
 
 #[derive(Clone, Copy)]
@@ -69,6 +92,10 @@ pub enum Mistake {
     TooManyNumbers,
     // the word at this place, from 1, is no number, or too large a one
     NoNumber(usize),
+    // the word at this place is not made of 0 and 1
+    NoMask(usize),
+    // the word at this place is no predicate's name
+    UnknownPredicate(usize),
 }
 
 pub impl fmt::Display for Mistake as MistakeDisplay {
@@ -81,6 +108,12 @@ pub impl fmt::Display for Mistake as MistakeDisplay {
             Mistake::TooManyNumbers => f.write_str("there are too many words"),
             Mistake::NoNumber(place) => {
                 write!(f, "word {place} after the name is no number, or too large")
+            }
+            Mistake::NoMask(place) => {
+                write!(f, "word {place} after the name is no mask of 0 and 1")
+            }
+            Mistake::UnknownPredicate(place) => {
+                write!(f, "word {place} after the name is no predicate")
             }
         }
     }

@@ -16,7 +16,7 @@ pub(crate) const MAX_ITEM: usize = 255;
 pub(crate) const MAX_INDEX: usize = usize::MAX;
 
 // The number of the word at a place, which counts from 1.
-fn number_at(word: &[u8], place: usize, max: usize) -> Result<usize, Mistake>
+pub(crate) fn number_at(word: &[u8], place: usize, max: usize) -> Result<usize, Mistake>
     ensures value { λ r. ⌜ r ≡ commands.numbered max place (now (word .entry)) ⌝ }
 {
     match number(word, max) {
@@ -56,6 +56,19 @@ pub(crate) fn two(words: &[&[u8]], max: usize) -> Result<(usize, usize), Mistake
         return Err(Mistake::TooManyNumbers);
     }
     Ok((number_at(words[0], 1, max)?, number_at(words[1], 2, max)?))
+}
+
+// The one word that there is.
+pub(crate) fn lone<'a>(words: &[&'a [u8]]) -> Result<&'a [u8], Mistake>
+    ensures { λ r. ⌜ mapped now (λ m. m) r ≡ commands.lone (commands.held (now (words .entry))) ⌝ }
+{
+    if words.len() < 1 {
+        return Err(Mistake::TooFewNumbers);
+    }
+    if words.len() > 1 {
+        return Err(Mistake::TooManyNumbers);
+    }
+    Ok(words[0])
 }
 
 // The items that the words write, in their order.

@@ -12,3 +12,9 @@ returns-in-TooManyNumbers g c = rw (c .in-TooManyNumbers .is) (search needs)
 
 pub returns-in-NoNumber : need.returns-in-NoNumber
 returns-in-NoNumber g c = rw (c .in-NoNumber .is) (search needs)
+
+pub returns-in-NoMask : need.returns-in-NoMask
+returns-in-NoMask g c = rw (c .in-NoMask .is) (search needs)
+
+pub returns-in-UnknownPredicate : need.returns-in-UnknownPredicate
+returns-in-UnknownPredicate g c = rw (c .in-UnknownPredicate .is) (search needs)
