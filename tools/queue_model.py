@@ -3,6 +3,7 @@
 
 It shares no code with the program. It keeps the slots in a plain list and finds the slot of an item by a remainder.
 """
+import re
 import sys
 
 MOST = 1048576
@@ -254,8 +255,10 @@ def binned(ring):
 
 def main():
     ring, closed = None, False
-    for n, text in enumerate(sys.stdin.read().splitlines(), 1):
-        words = text.split()
+    lines = sys.stdin.buffer.read().split(b"\n")
+    for n, line in enumerate(lines, 1):
+        text = line.decode(errors="replace").rstrip()
+        words = [word for word in re.split("[ \t\r]", text) if word]
         if not words or words[0].startswith("#"):
             continue
         name, words = words[0], words[1:]

@@ -38,36 +38,33 @@ use std::io::Read;
 // How many items the bin lists; it counts all.
 const TRAY: usize = 64;
 
-// Says why a line was not done.
-fn skip(rt: &LibcRuntime, line: Line, why: impl Display + Drop) -> io::Result<()> {
+// Says what became of a line.
+fn tell(rt: &LibcRuntime, line: Line, what: impl Display + Drop) -> io::Result<()> {
     let number = line.number;
     let text = String::from_utf8_lossy(rt.alloc(), line.text)?;
-    println!(rt, "{number}: {text} -> not done: {why}")
+    let text = text.as_str().trim_end();
+    println!(rt, "{number}: {text} -> {what}")
 }
 
-// Says what a call answered that left no item.
-fn told(rt: &LibcRuntime, line: Line, answer: impl Display + Drop) -> io::Result<()> {
-    let number = line.number;
-    let text = String::from_utf8_lossy(rt.alloc(), line.text)?;
-    println!(rt, "{number}: {text} -> {answer} | /")
+// Says why a line was not done.
+fn skip(rt: &LibcRuntime, line: Line, why: impl Display + Drop) -> io::Result<()> {
+    tell(rt, line, format_args!("not done: {why}"))
 }
 
 // Says what a call answered, and the list after it.
-fn tell(
+fn told(
     rt: &LibcRuntime,
     line: Line,
     ring: &Deque,
     slots: &[u8],
     answer: Answer,
 ) -> io::Result<()> {
-    let number = line.number;
-    let text = String::from_utf8_lossy(rt.alloc(), line.text)?;
     match ring.as_slices(slots) {
         Ok((first, second)) => {
             let slices = Slices(first, second);
-            println!(rt, "{number}: {text} -> {answer} {slices}")
+            tell(rt, line, format_args!("{answer} {slices}"))
         }
-        Err(fault) => println!(rt, "{number}: {text} -> {answer}; {fault}"),
+        Err(fault) => tell(rt, line, format_args!("{answer}; {fault}")),
     }
 }
 
@@ -143,14 +140,14 @@ fn step(
         Command::Nothing => Ok(()),
         Command::Make(_) => Ok(skip(rt, line, "there is a ring already")?),
         Command::Plain(Plain::Iter) => {
-            tell(rt, line, ring, slots, answer)?;
+            told(rt, line, ring, slots, answer)?;
             walk(rt, ring, slots)
         }
         Command::Plain(Plain::Draw) => {
-            tell(rt, line, ring, slots, answer)?;
+            told(rt, line, ring, slots, answer)?;
             Ok(draw(rt, ring, slots)?)
         }
-        _ => Ok(tell(rt, line, ring, slots, answer)?),
+        _ => Ok(told(rt, line, ring, slots, answer)?),
     }
 }
 
@@ -196,7 +193,7 @@ fn bench(
     let ended = steps(rt, lines, &mut ring, slots, bin);
     let closed = close(ring, token, slots, bin);
     match ended? {
-        Some(line) => told(rt, line, closed)?,
+        Some(line) => tell(rt, line, format_args!("{closed} | /"))?,
         None => println!(rt, "end of the script -> {closed} | /")?,
     }
     let count = bin.count();
@@ -212,7 +209,7 @@ fn opening(rt: &LibcRuntime, lines: &mut Lines) -> Result<Option<usize>, AnyErro
             Err(mistake) => skip(rt, line, mistake)?,
             Ok(Command::Nothing) => (),
             Ok(Command::Make(slots)) => {
-                told(rt, line, "ok")?;
+                tell(rt, line, "ok | /")?;
                 return Ok(Some(slots));
             }
             Ok(_) => skip(rt, line, "there is no ring yet: begin with a capacity")?,
