@@ -2,6 +2,8 @@ ghost use mathlib.Core.Path.{_≡_};
 ghost use Prim.Native.Nat.{_≤_};
 ghost use lib.ListN.{length};
 use bins::Bin;
+use bins::Pair;
+use bins::PairBin;
 use bins::Tray;
 use bins::TrayBin;
 use deque::CloseToken;
@@ -227,4 +229,25 @@ fn closing_again(rt: LibcRuntime) -> Result<(), Fail> {
     check_eq(fault, Some(Fault::TooFewSlots(1)))?;
     check_eq(closed, 1)?;
     check_eq(bin.count(), 1)
+}
+
+// A pair sends each item to both of its bins, and the first says how many.
+#[test]
+fn a_pair_of_trays(rt: LibcRuntime) -> Result<(), Fail> {
+    let first = Tray::new(rt.alloc(), 1)?;
+    let second = Tray::new(rt.alloc(), 8)?;
+    let mut rest = Tray::new(rt.alloc(), 8)?;
+    let mut pair = Pair { first, second };
+    let mut slots = [0u8; 3];
+    let (mut ring, token) = Deque::new(&slots);
+    let loaded = ring.load(&mut slots, &[5, 6, 7]);
+    let truncated = ring.truncate(&slots, 1, &mut pair);
+    let closed = close(ring, token, &slots, &mut rest);
+    check_eq(loaded, Ok(()))?;
+    check_eq(truncated, Ok(2))?;
+    check_eq(closed, 1)?;
+    check_eq(pair.count(), 2)?;
+    check_eq(pair.first.kept(), [6u8].as_slice())?;
+    check_eq(pair.second.kept(), [6u8, 7].as_slice())?;
+    check_eq(pair.read(1), (None, Some(7)))
 }
