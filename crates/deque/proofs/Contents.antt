@@ -12,7 +12,7 @@ use Rattle.std.proofs.shelf.Tests.{cases-lt, cases-eq}
 use Rattle.std.specs.Finite.{nth}
 use Rattle.std.specs.Iters.{folded}
 use Rattle.std.specs.declared.option.Option.the-variants.{Some, None}
-use Rattle.deque.specs.declared.places.Places.{Places}
+use Rattle.places.specs.declared.Places.{Places}
 use Rattle.deque.specs.Sound.{Sound}
 use Rattle.deque.specs.Ring.{slot, before, high, low, contents}
 use Rattle.deque.specs.Moves.{placed}

@@ -8,7 +8,7 @@ use lib.ListN.{length, getD, set, drop, length-append, length-drop, length-set}
 use Rattle.std.proofs.shelf.Edits.{exchanged-is}
 use Rattle.std.proofs.shelf.Lists.{getD-append-left}
 use Rattle.std.specs.Holes.{exchanged}
-use Rattle.deque.specs.declared.places.Places.{Places}
+use Rattle.places.specs.declared.Places.{Places}
 use Rattle.deque.specs.Sound.{Sound}
 use Rattle.deque.specs.Ring.{slot, contents}
 use Rattle.deque.specs.Moves.{placed}

@@ -7,7 +7,7 @@ use lib.ListN.{length, take, drop, length-append, length-take, length-drop}
 use lib.Seq.{paste}
 use Rattle.std.proofs.shelf.Lists.{take-at, drop-at, take-all, drop-drop, take-append-drop, length-take-le}
 use Rattle.std.proofs.shelf.Ways.{tells}
-use Rattle.deque.specs.declared.places.Places.{Places}
+use Rattle.places.specs.declared.Places.{Places}
 use Rattle.deque.specs.Sound.{Sound}
 use Rattle.deque.specs.Ring.{high, low, contents, new-front}
 use Rattle.deque.specs.Moves.{placed}

@@ -9,7 +9,7 @@ use Rattle.std.proofs.shelf.Edits.{length-between, getD-between}
 use Rattle.std.proofs.shelf.Lists.{same-lists, getD-append-left, getD-append-right, getD-take, getD-drop, getD-set-same, getD-set-other}
 use Rattle.std.proofs.shelf.Tests.{cases-lt, cases-eq}
 use Rattle.std.specs.Holes.{between}
-use Rattle.deque.specs.declared.places.Places.{Places}
+use Rattle.places.specs.declared.Places.{Places}
 use Rattle.deque.specs.Sound.{Sound}
 use Rattle.deque.specs.Ring.{slot, high, low, contents, lay}
 use Rattle.lists.proofs.Modulo.{mod-low, mod-high}

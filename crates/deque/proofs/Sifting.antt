@@ -8,7 +8,7 @@ use lib.ListN.{length, getD, set, take, drop, length-append, length-drop, length
 use lib.Seq.{set-at, getD-at}
 use Rattle.std.proofs.shelf.Lists.{take-more, drop-more, length-push, take-all, drop-all}
 use Rattle.predicates.specs.Showing.{Shown, showings, after}
-use Rattle.deque.specs.declared.places.Places.{Places}
+use Rattle.places.specs.declared.Places.{Places}
 use Rattle.deque.specs.Sound.{Sound}
 use Rattle.deque.specs.Ring.{slot, contents, lay}
 use Rattle.deque.specs.Sifting.{first-to-end, kept, rest}

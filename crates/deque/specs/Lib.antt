@@ -5,6 +5,5 @@ pub mod Sifting
 pub mod Plain
 pub mod Moves
 pub mod Writes
-pub mod Walks
 pub mod Closing
 pub mod Rows

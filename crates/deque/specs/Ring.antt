@@ -7,7 +7,7 @@ use lib.ListN.{take, drop, length}
 use Rattle.std.specs.Holes.{between}
 use Rattle.std.specs.declared.option.Option.{Option}
 use Rattle.fault.specs.declared.Fault.{Fault}
-use Rattle.deque.specs.declared.places.Places.{Places}
+use Rattle.places.specs.declared.Places.{Places}
 
 -- the slot of item i
 abbrev pub slot : Places → ℕ → ℕ

@@ -1,6 +1,6 @@
 -- What every ring's places keep.
 use Prim.Native.Nat.{ℕ, _-_, _≤_}
-use Rattle.deque.specs.declared.places.Places.{Places}
+use Rattle.places.specs.declared.Places.{Places}
 
 -- the slots that a ring uses at most
 abbrev pub most : ℕ

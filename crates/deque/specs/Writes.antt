@@ -7,7 +7,7 @@ use lib.ListN.{take, drop, length, set}
 use Rattle.std.specs.Holes.{exchanged}
 use Rattle.std.specs.declared.option.Option.{Option}
 use Rattle.predicates.specs.Showing.{stored}
-use Rattle.deque.specs.declared.places.Places.{Places}
+use Rattle.places.specs.declared.Places.{Places}
 use Rattle.deque.specs.Ring.{slot, before, new-front, contents, lay}
 
 module _ {T : Type 0} where

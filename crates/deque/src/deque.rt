@@ -1,6 +1,6 @@
 // The ring and its token.
 ghost use Rattle.deque.specs.Sound.{Sound};
-use crate::places::Places;
+use places::Places;
 
 pub mod closing;
 mod contiguous;

@@ -8,18 +8,18 @@ use bins::Tray;
 use bins::TrayBin;
 use deque::CloseToken;
 use deque::Deque;
-use deque::IterIterator;
 use deque::MAX_CAPACITY;
-use deque::Places;
-use deque::PlacesDebug;
-use deque::PlacesPartialEq;
 use fault::Fault;
 use fault::FaultDebug;
 use fault::FaultPartialEq;
 use fault::Returned;
 use fault::ReturnedDebug;
 use fault::ReturnedPartialEq;
+use places::Places;
+use places::PlacesDebug;
+use places::PlacesPartialEq;
 use std::test::*;
+use walk::IterIterator;
 
 // Ends a ring that has all its slots.
 pub(crate) fn close(ring: Deque, token: CloseToken, slots: &[u8], bin: &mut Tray<u8>) -> usize

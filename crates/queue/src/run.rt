@@ -21,8 +21,6 @@ use bins::Tray;
 use bins::TrayBin;
 use deque::CloseToken;
 use deque::Deque;
-use deque::IterDoubleEndedIterator;
-use deque::IterIterator;
 use deque::MAX_CAPACITY;
 use fault::Fault;
 use fault::FaultDisplay;
@@ -34,6 +32,8 @@ use std::error::AnyError;
 use std::fmt::Display;
 use std::io;
 use std::io::Read;
+use walk::IterDoubleEndedIterator;
+use walk::IterIterator;
 
 // How many items the bin lists; it counts all.
 const TRAY: usize = 64;

@@ -11,9 +11,9 @@ ghost use Rattle.deque.specs.Moves as moves;
 ghost use Rattle.deque.specs.Writes as writes;
 use crate::deque::CloseToken;
 use crate::deque::Deque;
-use crate::places::Places;
 use fault::Fault;
 use fault::Returned;
+use places::Places;
 
 // The slots that a ring uses at most, however many it is given.
 pub const MAX_CAPACITY: usize = 1_048_576;

@@ -8,9 +8,11 @@ ghost use Rattle.fault.specs.Refusing.{answer};
 ghost use Rattle.deque.specs.Ring.{contents, slices, at};
 ghost use Rattle.deque.specs.Refusals as refusal;
 ghost use Rattle.deque.specs.Plain as plain;
+ghost use Rattle.walk.specs.Walks.{ahead};
 use crate::deque::Deque;
-use crate::places::Places;
 use fault::Fault;
+use places::Places;
+use walk::Iter;
 
 impl Deque {
     // The ring's numbers, for who holds no slots.
@@ -84,5 +86,13 @@ impl Deque {
         let end = front + high;
         let low = places.len - high;
         Ok((&slots[front..end], &slots[0..low]))
+    }
+
+    // A walk over the ring's list.
+    pub fn iter<'a, T>(&self, slots: &'a [T]) -> Result<Iter<'a, T>, Fault>
+        ensures { λ r. let p = now (self .entry) .places in let xs = now (slots .entry) in ⌜ mapped ahead (λ f. f) r ≡ answer (at p xs refusal.slots) (contents p xs) ⌝ }
+    {
+        let (first, second) = self.as_slices(slots)?;
+        Ok(Iter::over(first, second))
     }
 }

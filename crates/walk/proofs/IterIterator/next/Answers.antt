@@ -4,7 +4,7 @@ use mathlib.Core.List.{_++_}
 use native.Mathlib.Omega.{arith}
 use lib.ListN.{length-append}
 use Rattle.lists.proofs.Twofold.{next-first, next-first-ahead, next-second, next-second-ahead, both-nil, shorter-first}
-use Rattle.deque.proofs.walk.IterIterator.next.Needs as need
+use Rattle.walk.proofs.IterIterator.next.Needs as need
 
 pub returns-then-first-gt0 : need.returns-then-first-gt0
 returns-then-first-gt0 g c =

@@ -5,9 +5,9 @@ ghost use lib.Dec.{eqb};
 // The list begins at the slot `front`, is `len` items long, and goes on at slot 0 after slot `capacity` - 1.
 #[derive(Clone, Copy, Debug, PartialEq, Eq)]
 pub struct Places {
-    pub(crate) capacity: usize,
-    pub(crate) front: usize,
-    pub(crate) len: usize,
+    pub capacity: usize,
+    pub front: usize,
+    pub len: usize,
 }
 
 impl Places {

@@ -1,7 +1,7 @@
 -- What a walk has ahead of it.
 use mathlib.Core.List.{List, _++_}
 use denote.Ref.{now}
-use Rattle.deque.specs.declared.walk.Iter.{Iter}
+use Rattle.walk.specs.declared.Iter.{Iter}
 
 abbrev pub ahead : {T : Type 0} → Iter T → List T
 ahead w = now (w .first) ++ now (w .second)

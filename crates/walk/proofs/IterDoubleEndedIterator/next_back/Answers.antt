@@ -5,7 +5,7 @@ use native.Mathlib.Omega.{arith}
 use lib.ListN.{length, length-append}
 use Prim.Native.Nat.{_-_}
 use Rattle.lists.proofs.Twofold.{back-first, back-first-ahead, back-second, back-second-ahead, both-nil, shorter-last}
-use Rattle.deque.proofs.walk.IterDoubleEndedIterator.next_back.Needs as need
+use Rattle.walk.proofs.IterDoubleEndedIterator.next_back.Needs as need
 
 pub returns-then-second-gt0 : need.returns-then-second-gt0
 returns-then-second-gt0 g c =

@@ -1,4 +1,4 @@
-// A walk over the list of a ring, from either end.
+// A walk over two slices, one after the other, from either end.
 ghost use mathlib.Core.Path.{_≡_};
 ghost use mathlib.Core.List.{_++_};
 ghost use Prim.Native.Nat.{ℕ, _-_};
@@ -6,14 +6,7 @@ ghost use lib.ListN.{length, take, drop};
 ghost use denote.Ref.{now as held};
 ghost use Rattle.std.specs.Finite.{nth};
 ghost use Rattle.std.specs.Options as options;
-ghost use Rattle.std.specs.Results as results;
-ghost use Rattle.fault.specs.Refusing.{answer};
-ghost use Rattle.deque.specs.Ring.{contents, at};
-ghost use Rattle.deque.specs.Refusals as refusal;
-ghost use Rattle.deque.specs.Plain as plain;
-ghost use Rattle.deque.specs.Walks.{ahead};
-use crate::deque::Deque;
-use fault::Fault;
+ghost use Rattle.walk.specs.Walks.{ahead};
 
 // What is still ahead: the first slice, then the second. It copies no element.
 #[derive(Drop)]
@@ -73,15 +66,5 @@ pub impl<'a, T> DoubleEndedIterator for Iter<'a, T> as IterDoubleEndedIterator {
             return Some(&first[last]);
         }
         None
-    }
-}
-
-impl Deque {
-    // A walk over the ring's list.
-    pub fn iter<'a, T>(&self, slots: &'a [T]) -> Result<Iter<'a, T>, Fault>
-        ensures { λ r. let p = now (self .entry) .places in let xs = now (slots .entry) in ⌜ results.mapped ahead (λ f. f) r ≡ answer (at p xs refusal.slots) (contents p xs) ⌝ }
-    {
-        let (first, second) = self.as_slices(slots)?;
-        Ok(Iter::over(first, second))
     }
 }
