@@ -1,4 +1,6 @@
 // Bins: where a container puts the items that it lets go.
+#![tactic(auto)]
+
 pub mod bin;
 pub mod pair;
 pub mod sending;

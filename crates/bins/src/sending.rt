@@ -6,9 +6,9 @@ use crate::bin::Bin;
 // Gives the bin each item, in order, and answers how many there were.
 pub fn send_all<T: Copy, B: Bin<T>>(items: &[T], bin: &mut B) -> usize
     ensures result { result ≡ length items.now }
-    ensures bin { state bin.new ≡ fold rule (state bin.old) items.now }
-    ensures count { count (state bin.new) ≡ (count (state bin.old) + length items.now) % 2 ^ 64 }
-    ensures from_fresh { fresh (state bin.old) → count (state bin.new) ≡ length items.now % 2 ^ 64 }
+    ensures bin { B.state bin.new ≡ fold B.rule (B.state bin.old) items.now }
+    ensures count { B.count (B.state bin.new) ≡ (B.count (B.state bin.old) + length items.now) % 2 ^ 64 }
+    ensures from_fresh { B.fresh (B.state bin.old) → B.count (B.state bin.new) ≡ length items.now % 2 ^ 64 }
 {
     for x in items {
         bin.take(*x);

@@ -1,4 +1,6 @@
 // The calls of a ring as values, what they answer, and the law of every list of them.
+#![tactic(auto)]
+
 pub mod answer;
 pub mod call;
 

@@ -1,4 +1,6 @@
 // A double-ended queue of fixed capacity, a ring over slots that its caller lends to each call.
+#![tactic(auto)]
+
 pub mod deque;
 mod rotation;
 pub mod rows;

@@ -1,4 +1,6 @@
 // What the product refuses, and the one line that says so.
+#![tactic(auto)]
+
 ghost use Rattle.std.specs.Prelude.{◌≡◌, Some};
 ghost use Rattle.fault.specs.Faults as faults;
 

@@ -68,9 +68,9 @@ fn pop_if<T: Copy, P: Predicate<T>>(
     end: End,
     predicate: &mut P,
 ) -> Answer<T>
-    ensures lies { let p = ring.old.places in let xs = slots.old in let s = state predicate.old in lie ring.new.places slots.new ≡ unless (at p xs refusal.slots) (lie p xs) (tests rule (test_is.PopIf end) s p xs) }
-    ensures predicate { let p = ring.old.places in let xs = slots.old in let s = state predicate.old in state predicate.new ≡ unless (at p xs refusal.slots) s (moved rule s (shown_item (test_is.PopIf end) (contents p xs))) }
-    ensures answer { let p = ring.old.places in let xs = slots.old in let s = state predicate.old in said result ≡ unless_refused (at p xs refusal.slots) None (told p xs (test_turn rule (test_is.PopIf end) s (contents p xs)).answer) }
+    ensures lies { let p = ring.old.places in let xs = slots.old in let s = P.state predicate.old in lie ring.new.places slots.new ≡ unless (at p xs refusal.slots) (lie p xs) (tests P.rule (test_is.PopIf end) s p xs) }
+    ensures predicate { let p = ring.old.places in let xs = slots.old in let s = P.state predicate.old in P.state predicate.new ≡ unless (at p xs refusal.slots) s (moved P.rule s (shown_item (test_is.PopIf end) (contents p xs))) }
+    ensures answer { let p = ring.old.places in let xs = slots.old in let s = P.state predicate.old in said result ≡ unless_refused (at p xs refusal.slots) None (told p xs (test_turn P.rule (test_is.PopIf end) s (contents p xs)).answer) }
 {
     match end {
         End::Front => item(ring.pop_front_if(slots, predicate)),
@@ -84,9 +84,9 @@ pub(crate) fn test<T: Copy, P: Predicate<T>>(
     slots: &mut [T],
     predicate: &mut P,
 ) -> Answer<T>
-    ensures lies { let p = ring.old.places in let xs = slots.old in let s = state predicate.old in lie ring.new.places slots.new ≡ unless (at p xs refusal.slots) (lie p xs) (tests rule test s p xs) }
-    ensures predicate { let p = ring.old.places in let xs = slots.old in let s = state predicate.old in state predicate.new ≡ unless (at p xs refusal.slots) s (moved rule s (shown_item test (contents p xs))) }
-    ensures answer { let p = ring.old.places in let xs = slots.old in let s = state predicate.old in said result ≡ unless_refused (at p xs refusal.slots) None (told p xs (test_turn rule test s (contents p xs)).answer) }
+    ensures lies { let p = ring.old.places in let xs = slots.old in let s = P.state predicate.old in lie ring.new.places slots.new ≡ unless (at p xs refusal.slots) (lie p xs) (tests P.rule test s p xs) }
+    ensures predicate { let p = ring.old.places in let xs = slots.old in let s = P.state predicate.old in P.state predicate.new ≡ unless (at p xs refusal.slots) s (moved P.rule s (shown_item test (contents p xs))) }
+    ensures answer { let p = ring.old.places in let xs = slots.old in let s = P.state predicate.old in said result ≡ unless_refused (at p xs refusal.slots) None (told p xs (test_turn P.rule test s (contents p xs)).answer) }
 {
     match test {
         Test::PopIf(end) => pop_if(ring, slots, end, predicate),
@@ -101,7 +101,7 @@ pub(crate) fn release<T: Copy, B: Bin<T>>(
     bin: &mut B,
 ) -> Answer<T>
     ensures lies { let p = ring.old.places in let xs = slots.now in lie ring.new.places xs ≡ unless (at p xs refusal.slots) (lie p xs) (lie (releases release p) xs) }
-    ensures bin { let p = ring.old.places in let xs = slots.now in let s = state bin.old in state bin.new ≡ unless (at p xs refusal.slots) s (fold rule s (release_turn release (contents p xs)).flow.binned) }
+    ensures bin { let p = ring.old.places in let xs = slots.now in let s = B.state bin.old in B.state bin.new ≡ unless (at p xs refusal.slots) s (fold B.rule s (release_turn release (contents p xs)).flow.binned) }
     ensures answer { let p = ring.old.places in let xs = slots.now in said result ≡ unless_refused (at p xs refusal.slots) None (told p xs (release_turn release (contents p xs)).answer) }
 {
     match release {

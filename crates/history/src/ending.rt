@@ -11,7 +11,7 @@ impl Stage {
     // Closes the ring or finishes the drain, if it is open: bins what is left, in list order, and answers how many. A refusal gives all back.
     pub fn end<T: Copy, B: Bin<T>>(self, slots: &[T], bin: &mut B) -> Result<usize, Stage>
         ensures result { result ≡ ended_or_kept (end_refusal self (length slots.now)) self (length (left_in self slots.now)) }
-        ensures bin { let s = state bin.old in state bin.new ≡ unless (end_refusal self (length slots.now)) s (fold rule s (left_in self slots.now)) }
+        ensures bin { let s = B.state bin.old in B.state bin.new ≡ unless (end_refusal self (length slots.now)) s (fold B.rule s (left_in self slots.now)) }
     {
         match self {
             Stage::Ring(ring, token) => match ring.close(token, slots, bin) {

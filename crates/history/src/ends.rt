@@ -22,7 +22,7 @@ pub(crate) fn close<T: Copy, B: Bin<T>>(
 ) -> (Stage, Answer<T>)
     ensures phase { phase_of result.0 ≡ unless (at ring.places slots.now refusal.slots) phase.ring phase.closed }
     ensures places { places_of result.0 ≡ unless (at ring.places slots.now refusal.slots) ring.places (moves.clear ring.places) }
-    ensures bin { let s = state bin.old in state bin.new ≡ unless (at ring.places slots.now refusal.slots) s (fold rule s (contents ring.places slots.now)) }
+    ensures bin { let s = B.state bin.old in B.state bin.new ≡ unless (at ring.places slots.now refusal.slots) s (fold B.rule s (contents ring.places slots.now)) }
     ensures answer { said result.1 ≡ unless_refused (at ring.places slots.now refusal.slots) None (said (answers.Number (length (contents ring.places slots.now)))) }
 {
     let capacity = ring.places().capacity();
@@ -57,7 +57,7 @@ pub(crate) fn finish<T: Copy, B: Bin<T>>(
 ) -> (Stage, Answer<T>)
     ensures phase { phase_of result.0 ≡ unless (at drain.ring.places slots.now refusal.slots) phase.drain phase.closed }
     ensures places { places_of result.0 ≡ unless (at drain.ring.places slots.now refusal.slots) drain.ring.places (moves.clear drain.ring.places) }
-    ensures bin { let s = state bin.old in state bin.new ≡ unless (at drain.ring.places slots.now refusal.slots) s (fold rule s (contents drain.ring.places slots.now)) }
+    ensures bin { let s = B.state bin.old in B.state bin.new ≡ unless (at drain.ring.places slots.now refusal.slots) s (fold B.rule s (contents drain.ring.places slots.now)) }
     ensures answer { said result.1 ≡ unless_refused (at drain.ring.places slots.now refusal.slots) None (said (answers.Number (length (contents drain.ring.places slots.now)))) }
 {
     let capacity = drain.places().capacity();

@@ -1,4 +1,6 @@
 // Whole histories of a ring: any list of calls, carried out one after another, and the law that holds at every moment.
+#![tactic(auto)]
+
 mod answers;
 mod drained;
 mod drains;

@@ -39,7 +39,7 @@ fn take<T: Copy>(iter: &mut Iter<'_, T>, end: End) -> Option<T>
 
 // Takes an item from each of these ends in turn.
 fn hear_walk<T: Copy, L: Listener<T>>(iter: Iter<'_, T>, ends: &[End], listener: &mut L)
-    ensures { state listener.new ≡ fold rule (state listener.old) (heard (walked (plain_list.walk ends.now (ahead iter.entry)))) }
+    ensures { L.state listener.new ≡ fold L.rule (L.state listener.old) (heard (walked (plain_list.walk ends.now (ahead iter.entry)))) }
 {
     let mut iter = iter;
     for end in ends {
@@ -49,7 +49,7 @@ fn hear_walk<T: Copy, L: Listener<T>>(iter: Iter<'_, T>, ends: &[End], listener:
 }
 
 fn slices<T: Copy, L: Listener<T>>(ring: &Deque, slots: &[T], listener: &mut L)
-    ensures { let p = ring.now.places in let xs = slots.now in state listener.new ≡ fold rule (state listener.old) (heard (unless_refused (at p xs refusal.slots) None (told p xs (reading p.capacity read_is.Slices (contents p xs))))) }
+    ensures { let p = ring.now.places in let xs = slots.now in L.state listener.new ≡ fold L.rule (L.state listener.old) (heard (unless_refused (at p xs refusal.slots) None (told p xs (reading p.capacity read_is.Slices (contents p xs))))) }
 {
     match ring.as_slices(slots) {
         Ok((first, second)) => listener.hear_slices(ring.places().front(), first, second),
@@ -58,7 +58,7 @@ fn slices<T: Copy, L: Listener<T>>(ring: &Deque, slots: &[T], listener: &mut L)
 }
 
 fn walk<T: Copy, L: Listener<T>>(ring: &Deque, ends: &[End], slots: &[T], listener: &mut L)
-    ensures { let p = ring.now.places in let xs = slots.now in state listener.new ≡ fold rule (state listener.old) (heard (unless_refused (at p xs refusal.slots) None (walked (plain_list.walk ends.now (contents p xs))))) }
+    ensures { let p = ring.now.places in let xs = slots.now in L.state listener.new ≡ fold L.rule (L.state listener.old) (heard (unless_refused (at p xs refusal.slots) None (walked (plain_list.walk ends.now (contents p xs))))) }
 {
     match ring.iter(slots) {
         Ok(iter) => hear_walk(iter, ends, listener),
@@ -72,7 +72,7 @@ pub(crate) fn read<T: Copy, L: Listener<T>>(
     slots: &[T],
     listener: &mut L,
 )
-    ensures { let p = ring.now.places in let xs = slots.now in state listener.new ≡ fold rule (state listener.old) (heard (unless_refused (at p xs refusal.slots) None (told p xs (reading p.capacity read.now (contents p xs))))) }
+    ensures { let p = ring.now.places in let xs = slots.now in L.state listener.new ≡ fold L.rule (L.state listener.old) (heard (unless_refused (at p xs refusal.slots) None (told p xs (reading p.capacity read.now (contents p xs))))) }
 {
     match read {
         Read::Get(index) => listener.hear(item(ring.get(slots, *index))),

@@ -1,4 +1,6 @@
 // Where a ring lies in its slots.
+#![tactic(auto)]
+
 ghost use Rattle.std.specs.Prelude.{◌≡◌, eqb};
 
 // The list begins at the slot `front`, is `len` items long, and goes on at slot 0 after slot `capacity` - 1.

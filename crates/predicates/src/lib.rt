@@ -1,4 +1,6 @@
 // Predicates that are shown items one by one.
+#![tactic(auto)]
+
 pub mod bytes;
 pub mod mask;
 pub mod predicate;

@@ -1,4 +1,5 @@
 // Runs a script of calls through a ring of bytes, and prints what each did.
+#![tactic(auto)]
 
 mod answer;
 mod lines;

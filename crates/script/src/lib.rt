@@ -1,4 +1,6 @@
 // Reading a script: one call of a ring of bytes to a line.
+#![tactic(auto)]
+
 pub mod command;
 mod line;
 mod number;

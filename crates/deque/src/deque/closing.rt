@@ -22,7 +22,7 @@ impl Deque {
     // Bins the items from the index `from` on, in list order.
     fn bin_from<T: Copy, B: Bin<T>>(&self, slots: &[T], from: usize, bin: &mut B)
         requires { self.now.places.capacity ≤ length slots.now }
-        ensures { state bin.new ≡ fold rule (state bin.old) (drop from (contents self.now.places slots.now)) }
+        ensures { B.state bin.new ≡ fold B.rule (B.state bin.old) (drop from (contents self.now.places slots.now)) }
     {
         for i in from..self.places.len {
             let at = self.slot(i);
@@ -40,7 +40,7 @@ impl Deque {
         ensures result { let p = self.old.places in let xs = slots.now in result ≡ answer (at p xs refusal.slots) (plain.truncate len (contents p xs)).answer }
         ensures places { let p = self.old.places in let xs = slots.now in self.new.places ≡ unless (at p xs refusal.slots) p (moves.truncate len p) }
         ensures list { let p = self.old.places in let xs = slots.now in contents self.new.places xs ≡ unless (at p xs refusal.slots) (contents p xs) (plain.truncate len (contents p xs)).list }
-        ensures bin { let p = self.old.places in let xs = slots.now in let s = state bin.old in state bin.new ≡ unless (at p xs refusal.slots) s (fold rule s (plain.truncate len (contents p xs)).binned) }
+        ensures bin { let p = self.old.places in let xs = slots.now in let s = B.state bin.old in B.state bin.new ≡ unless (at p xs refusal.slots) s (fold B.rule s (plain.truncate len (contents p xs)).binned) }
     {
         self.lent(slots)?;
         if len >= self.places.len {
@@ -57,7 +57,7 @@ impl Deque {
         ensures result { let p = self.old.places in let xs = slots.now in result ≡ answer (at p xs refusal.slots) (plain.clear (contents p xs)).answer }
         ensures places { let p = self.old.places in let xs = slots.now in self.new.places ≡ unless (at p xs refusal.slots) p (moves.clear p) }
         ensures list { let p = self.old.places in let xs = slots.now in contents self.new.places xs ≡ unless (at p xs refusal.slots) (contents p xs) (plain.clear (contents p xs)).list }
-        ensures bin { let p = self.old.places in let xs = slots.now in let s = state bin.old in state bin.new ≡ unless (at p xs refusal.slots) s (fold rule s (plain.clear (contents p xs)).binned) }
+        ensures bin { let p = self.old.places in let xs = slots.now in let s = B.state bin.old in B.state bin.new ≡ unless (at p xs refusal.slots) s (fold B.rule s (plain.clear (contents p xs)).binned) }
     {
         self.lent(slots)?;
         self.bin_from(slots, 0, bin);
@@ -75,7 +75,7 @@ impl Deque {
         bin: &mut B,
     ) -> Result<usize, Unclosed>
         ensures result { let p = self.places in let xs = slots.now in result ≡ answer_or_keep (at p xs refusal.slots) self token (plain.clear (contents p xs)).answer }
-        ensures bin { let p = self.places in let xs = slots.now in let s = state bin.old in state bin.new ≡ unless (at p xs refusal.slots) s (fold rule s (plain.clear (contents p xs)).binned) }
+        ensures bin { let p = self.places in let xs = slots.now in let s = B.state bin.old in B.state bin.new ≡ unless (at p xs refusal.slots) s (fold B.rule s (plain.clear (contents p xs)).binned) }
     {
         if let Err(fault) = self.lent(slots) {
             return Err(Unclosed {

@@ -84,7 +84,7 @@ impl IntoIter {
         bin: &mut B,
     ) -> Result<usize, Unfinished>
         ensures result { let p = self.ring.places in let xs = slots.now in result ≡ answer_or_keep_drain (at p xs refusal.slots) self token (plain.clear (contents p xs)).answer }
-        ensures bin { let p = self.ring.places in let xs = slots.now in let s = state bin.old in state bin.new ≡ unless (at p xs refusal.slots) s (fold rule s (plain.clear (contents p xs)).binned) }
+        ensures bin { let p = self.ring.places in let xs = slots.now in let s = B.state bin.old in B.state bin.new ≡ unless (at p xs refusal.slots) s (fold B.rule s (plain.clear (contents p xs)).binned) }
     {
         let IntoIter { ring } = self;
         match ring.close(token, slots, bin) {

@@ -18,9 +18,9 @@ impl Deque {
     // Shows each item, in list order, stores it as left, brings those that got yes to the front, and answers how many they are.
     fn sift<T: Copy, P: Predicate<T>>(&self, slots: &mut [T], predicate: &mut P) -> usize
         requires { self.now.places.capacity ≤ length slots.old }
-        ensures result { let ws = showings rule (state predicate.old) (contents self.now.places slots.old) in result ≡ length (kept ws) }
-        ensures slots { let p = self.now.places in let xs = slots.old in let ws = showings rule (state predicate.old) (contents p xs) in slots.new ≡ writes.retain (kept ws) (rest ws) p xs }
-        ensures predicate { let s = state predicate.old in state predicate.new ≡ after rule s (contents self.now.places slots.old) }
+        ensures result { let ws = showings P.rule (P.state predicate.old) (contents self.now.places slots.old) in result ≡ length (kept ws) }
+        ensures slots { let p = self.now.places in let xs = slots.old in let ws = showings P.rule (P.state predicate.old) (contents p xs) in slots.new ≡ writes.retain (kept ws) (rest ws) p xs }
+        ensures predicate { let s = P.state predicate.old in P.state predicate.new ≡ after P.rule s (contents self.now.places slots.old) }
     {
         let mut idx = 0;
         let mut cur = 0;

@@ -22,10 +22,10 @@ impl Deque {
     ) -> bool
         requires within { i < self.now.places.len }
         requires enough { self.now.places.capacity ≤ length slots.old }
-        ensures answer { let p = self.now.places in let xs = slots.old in let s = state predicate.old in result ≡ yes_to rule s (plain.get i (contents p xs)) }
-        ensures slots { let p = self.now.places in let xs = slots.old in let s = state predicate.old in slots.new ≡ writes.store (left rule s (plain.get i (contents p xs))) i p xs }
-        ensures list { let p = self.now.places in let xs = slots.old in let s = state predicate.old in contents p slots.new ≡ stored (left rule s (plain.get i (contents p xs))) i (contents p xs) }
-        ensures predicate { let p = self.now.places in let xs = slots.old in let s = state predicate.old in state predicate.new ≡ moved rule s (plain.get i (contents p xs)) }
+        ensures answer { let p = self.now.places in let xs = slots.old in let s = P.state predicate.old in result ≡ yes_to P.rule s (plain.get i (contents p xs)) }
+        ensures slots { let p = self.now.places in let xs = slots.old in let s = P.state predicate.old in slots.new ≡ writes.store (left P.rule s (plain.get i (contents p xs))) i p xs }
+        ensures list { let p = self.now.places in let xs = slots.old in let s = P.state predicate.old in contents p slots.new ≡ stored (left P.rule s (plain.get i (contents p xs))) i (contents p xs) }
+        ensures predicate { let p = self.now.places in let xs = slots.old in let s = P.state predicate.old in P.state predicate.new ≡ moved P.rule s (plain.get i (contents p xs)) }
     {
         let at = self.slot(i);
         predicate.show(&mut slots[at])
@@ -38,10 +38,10 @@ impl Deque {
         i: usize,
         predicate: &mut P,
     ) -> Result<Option<bool>, Fault>
-        ensures result { let p = self.now.places in let xs = slots.old in let s = state predicate.old in result ≡ answer (at p xs refusal.slots) (plain.change rule s i (contents p xs)).answer }
-        ensures slots { let p = self.now.places in let xs = slots.old in let s = state predicate.old in slots.new ≡ unless (at p xs refusal.slots) xs (writes.store (left rule s (plain.get i (contents p xs))) i p xs) }
-        ensures list { let p = self.now.places in let xs = slots.old in let s = state predicate.old in contents p slots.new ≡ unless (at p xs refusal.slots) (contents p xs) (plain.change rule s i (contents p xs)).list }
-        ensures predicate { let p = self.now.places in let xs = slots.old in let s = state predicate.old in state predicate.new ≡ unless (at p xs refusal.slots) s (moved rule s (plain.get i (contents p xs))) }
+        ensures result { let p = self.now.places in let xs = slots.old in let s = P.state predicate.old in result ≡ answer (at p xs refusal.slots) (plain.change P.rule s i (contents p xs)).answer }
+        ensures slots { let p = self.now.places in let xs = slots.old in let s = P.state predicate.old in slots.new ≡ unless (at p xs refusal.slots) xs (writes.store (left P.rule s (plain.get i (contents p xs))) i p xs) }
+        ensures list { let p = self.now.places in let xs = slots.old in let s = P.state predicate.old in contents p slots.new ≡ unless (at p xs refusal.slots) (contents p xs) (plain.change P.rule s i (contents p xs)).list }
+        ensures predicate { let p = self.now.places in let xs = slots.old in let s = P.state predicate.old in P.state predicate.new ≡ unless (at p xs refusal.slots) s (moved P.rule s (plain.get i (contents p xs))) }
     {
         self.lent(slots)?;
         if i >= self.places.len {
@@ -56,11 +56,11 @@ impl Deque {
         slots: &mut [T],
         predicate: &mut P,
     ) -> Result<Option<T>, Fault>
-        ensures result { let p = self.old.places in let xs = slots.old in let s = state predicate.old in result ≡ answer (at p xs refusal.slots) (plain.pop_front_if rule s (contents p xs)).answer }
-        ensures places { let p = self.old.places in let xs = slots.old in let s = state predicate.old in self.new.places ≡ unless (at p xs refusal.slots) p (moves.pop_front_if (yes_to rule s (plain.front (contents p xs))) p) }
-        ensures slots { let p = self.old.places in let xs = slots.old in let s = state predicate.old in slots.new ≡ unless (at p xs refusal.slots) xs (writes.store (left rule s (plain.front (contents p xs))) 0 p xs) }
-        ensures list { let p = self.old.places in let xs = slots.old in let s = state predicate.old in contents self.new.places slots.new ≡ unless (at p xs refusal.slots) (contents p xs) (plain.pop_front_if rule s (contents p xs)).list }
-        ensures predicate { let p = self.old.places in let xs = slots.old in let s = state predicate.old in state predicate.new ≡ unless (at p xs refusal.slots) s (moved rule s (plain.front (contents p xs))) }
+        ensures result { let p = self.old.places in let xs = slots.old in let s = P.state predicate.old in result ≡ answer (at p xs refusal.slots) (plain.pop_front_if P.rule s (contents p xs)).answer }
+        ensures places { let p = self.old.places in let xs = slots.old in let s = P.state predicate.old in self.new.places ≡ unless (at p xs refusal.slots) p (moves.pop_front_if (yes_to P.rule s (plain.front (contents p xs))) p) }
+        ensures slots { let p = self.old.places in let xs = slots.old in let s = P.state predicate.old in slots.new ≡ unless (at p xs refusal.slots) xs (writes.store (left P.rule s (plain.front (contents p xs))) 0 p xs) }
+        ensures list { let p = self.old.places in let xs = slots.old in let s = P.state predicate.old in contents self.new.places slots.new ≡ unless (at p xs refusal.slots) (contents p xs) (plain.pop_front_if P.rule s (contents p xs)).list }
+        ensures predicate { let p = self.old.places in let xs = slots.old in let s = P.state predicate.old in P.state predicate.new ≡ unless (at p xs refusal.slots) s (moved P.rule s (plain.front (contents p xs))) }
     {
         self.lent(slots)?;
         if self.places.len == 0 {
@@ -79,11 +79,11 @@ impl Deque {
         slots: &mut [T],
         predicate: &mut P,
     ) -> Result<Option<T>, Fault>
-        ensures result { let p = self.old.places in let xs = slots.old in let s = state predicate.old in result ≡ answer (at p xs refusal.slots) (plain.pop_back_if rule s (contents p xs)).answer }
-        ensures places { let p = self.old.places in let xs = slots.old in let s = state predicate.old in self.new.places ≡ unless (at p xs refusal.slots) p (moves.pop_back_if (yes_to rule s (plain.back (contents p xs))) p) }
-        ensures slots { let p = self.old.places in let xs = slots.old in let s = state predicate.old in slots.new ≡ unless (at p xs refusal.slots) xs (writes.store (left rule s (plain.back (contents p xs))) (p.len - 1) p xs) }
-        ensures list { let p = self.old.places in let xs = slots.old in let s = state predicate.old in contents self.new.places slots.new ≡ unless (at p xs refusal.slots) (contents p xs) (plain.pop_back_if rule s (contents p xs)).list }
-        ensures predicate { let p = self.old.places in let xs = slots.old in let s = state predicate.old in state predicate.new ≡ unless (at p xs refusal.slots) s (moved rule s (plain.back (contents p xs))) }
+        ensures result { let p = self.old.places in let xs = slots.old in let s = P.state predicate.old in result ≡ answer (at p xs refusal.slots) (plain.pop_back_if P.rule s (contents p xs)).answer }
+        ensures places { let p = self.old.places in let xs = slots.old in let s = P.state predicate.old in self.new.places ≡ unless (at p xs refusal.slots) p (moves.pop_back_if (yes_to P.rule s (plain.back (contents p xs))) p) }
+        ensures slots { let p = self.old.places in let xs = slots.old in let s = P.state predicate.old in slots.new ≡ unless (at p xs refusal.slots) xs (writes.store (left P.rule s (plain.back (contents p xs))) (p.len - 1) p xs) }
+        ensures list { let p = self.old.places in let xs = slots.old in let s = P.state predicate.old in contents self.new.places slots.new ≡ unless (at p xs refusal.slots) (contents p xs) (plain.pop_back_if P.rule s (contents p xs)).list }
+        ensures predicate { let p = self.old.places in let xs = slots.old in let s = P.state predicate.old in P.state predicate.new ≡ unless (at p xs refusal.slots) s (moved P.rule s (plain.back (contents p xs))) }
     {
         self.lent(slots)?;
         if self.places.len == 0 {

@@ -13,4 +13,4 @@ returns g c =
     let xs = c.args.items.now in
     let takes : B.state c.loop-x.bin ≡ fold B.rule s xs = search (rules, take_all) in
     let all = ap B.count takes ∙ counted B.rule B.count g.met.B.Bin.counts g.met.B.Bin.fits s xs in
-    record { result = refl; bin = takes; count = all; from-fresh = λ f. omega (arith, all, g.met.B.Bin.starts s f) }
+    record { result = refl; bin = takes; count = all; from_fresh = λ f. omega (arith, all, g.met.B.Bin.starts s f) }

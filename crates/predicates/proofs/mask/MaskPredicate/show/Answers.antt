@@ -5,10 +5,10 @@ use Rattle.predicates.proofs.mask.MaskPredicate.show.Goals as goal
 
 pub returns-then-self : goal.returns-then-self
 returns-then-self g c =
-    let e = mask_past c.args.self.now.flags.now c.args.self.now.used c.args.-item.now c.if-self.true in
+    let e = mask_past c.args.self.now.flags.now c.args.self.now.used c.args._item.now c.if-self.true in
     record { answer = sym (ap (λ s. s.answer) e); item = sym (ap (λ s. s.item) e); state = sym (ap (λ s. s.state) e) }
 
 pub returns : goal.returns
 returns g c =
-    let e = mask_next c.args.self.now.flags.now c.args.self.now.used c.args.-item.now c.if-self.false in
+    let e = mask_next c.args.self.now.flags.now c.args.self.now.used c.args._item.now c.if-self.false in
     record { answer = sym (ap (λ s. s.answer) e); item = sym (ap (λ s. s.item) e); state = sym (ap (λ s. s.state) e) }
