@@ -6,4 +6,4 @@ use Rattle.bins.proofs.tray.Tray.holding.Goals as goal
 pub returns : goal.returns
 returns g c =
     let xs = c.args.items.now in
-    c.send_all.ensures.bin ∙ ap (λ (s : TrayState _). fold trayed s xs) c.in-ok-tray.ensures ∙ trayed_all c.args.slots xs
+    c.send_all.ensures.bin ∙ ap (λ (s : TrayState _). fold trayed s xs) c.in_ok-tray.ensures ∙ trayed_all c.args.slots xs
