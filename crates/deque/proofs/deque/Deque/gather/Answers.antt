@@ -6,8 +6,8 @@ use Rattle.deque.specs.Ring.{new_front}
 use Rattle.deque.proofs.Gathered.{gathered_is}
 use Rattle.deque.proofs.deque.Deque.gather.Goals as goal
 
-pub returns-then-front-len-free : goal.returns-then-front-len-free
-returns-then-front-len-free g c =
+pub returns-then-front_len-free : goal.returns-then-front_len-free
+returns-then-front_len-free g c =
     let xs = c.args.slots.now in
     let p = c.args.self.now.places in
     let ok = c.args.self.now.ok in
@@ -21,8 +21,8 @@ returns-then-front-len-free g c =
     let is = gathered_is p xs ok c.requires.enough (0) e (omega arith) in
     record { front = e; slots = cc }
 
-pub returns-then-back-len-free : goal.returns-then-back-len-free
-returns-then-back-len-free g c =
+pub returns-then-back_len-free : goal.returns-then-back_len-free
+returns-then-back_len-free g c =
     let xs = c.args.slots.now in
     let p = c.args.self.now.places in
     let ok = c.args.self.now.ok in
@@ -37,8 +37,8 @@ returns-then-back-len-free g c =
     let is = gathered_is p xs ok c.requires.enough (t) e (omega arith) in
     record { front = e; slots = cc }
 
-pub returns-then-back-len-front-len : goal.returns-then-back-len-front-len
-returns-then-back-len-front-len g c =
+pub returns-then-back_len-front_len : goal.returns-then-back_len-front_len
+returns-then-back_len-front_len g c =
     let xs = c.args.slots.now in
     let p = c.args.self.now.places in
     let ok = c.args.self.now.ok in
@@ -55,8 +55,8 @@ returns-then-back-len-front-len g c =
     let is = gathered_is p xs ok c.requires.enough (N - n) e (omega arith) in
     record { front = e; slots = cc }
 
-pub returns-else-back-len-front-len : goal.returns-else-back-len-front-len
-returns-else-back-len-front-len g c =
+pub returns-else-back_len-front_len : goal.returns-else-back_len-front_len
+returns-else-back_len-front_len g c =
     let xs = c.args.slots.now in
     let p = c.args.self.now.places in
     let ok = c.args.self.now.ok in
