@@ -1,5 +1,5 @@
 -- The count of a bin after several items, from the laws of its kind.
-use Rattle.std.proofs.Common.{◌≡◌, ℕ, suc, ◌+◌, ◌%◌, ◌^◌, ◌<◌, List, [], ◌∷◌, length, fold, sym, ap, ◌∙◌, add-zero, add_assoc, mod-eq_of_lt, arith}
+use Rattle.std.proofs.Common.{◌≡◌, ℕ, ◌+◌, ◌%◌, ◌^◌, ◌<◌, List, [], ◌∷◌, length, fold, ap, ◌∙◌, arith}
 use native.Mathlib.Nat.{mod-add-mod}
 
 module _ {S T : Type 0} (rule : S → T → S) (count : S → ℕ) (counts : (s : S) (x : T) → count (rule s x) ≡ (count s + 1) % 2 ^ 64) (fits : (s : S) → count s < 2 ^ 64) where

@@ -1,5 +1,5 @@
 -- The loop that shows a ring's items in order and gathers those that got yes at its front.
-use Rattle.std.proofs.Common.{◌≡◌, ℕ, suc, ◌+◌, ◌-◌, ◌<◌, ◌≤◌, Bool, true, false, List, [], ◌∷◌, ◌++◌, length, get_or, take, drop, set, sym, refl, ap, ◌∙◌, append_assoc, append-nil, arith, length-append, length-drop, length-take}
+use Rattle.std.proofs.Common.{◌≡◌, ℕ, ◌+◌, ◌<◌, ◌≤◌, true, false, List, [], ◌∷◌, ◌++◌, length, get_or, take, drop, set, sym, refl, ap, ◌∙◌, append_assoc, append-nil, arith, length-append, length-drop, length-take}
 use lib.Seq.{set_at, get_or_at}
 use Rattle.std.proofs.lemmas.List.{take_more, drop_more, length_push, take_all, drop_all}
 use Rattle.predicates.specs.Showing.{Shown, showings, after}

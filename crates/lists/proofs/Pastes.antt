@@ -1,9 +1,9 @@
 -- Parts of a list that are copied over others.
-use Rattle.std.proofs.Common.{◌≡◌, ℕ, ◌+◌, ◌-◌, ◌<◌, ◌≤◌, List, [], ◌++◌, length, take, drop, sym, refl, ap, ◌∙◌, append_assoc, append-nil, zero-add, arith, length-append, length-drop, length-take}
+use Rattle.std.proofs.Common.{◌≡◌, ℕ, ◌+◌, ◌-◌, ◌≤◌, List, ◌++◌, length, take, drop, sym, ◌∙◌, append_assoc, arith, length-append, length-drop, length-take}
 use lib.Seq.{paste}
 use borrow.Rule.Slice.PartMut.{put_mid}
-use Rattle.std.proofs.lemmas.List.{take_at, drop_at, take_all, drop_all, take-take, drop-drop, take-append-drop, take-append-le, drop-append-le, length-take-le}
-use Rattle.std.proofs.lemmas.List.Edits.{take-paste, drop-paste, length-paste, paste-paste}
+use Rattle.std.proofs.lemmas.List.{take_at, drop_at, take_all, take-take, drop-drop, take-append-drop, take-append-le, length-take-le}
+use Rattle.std.proofs.lemmas.List.Edits.{drop-paste, paste-paste}
 use Rattle.lists.specs.Rotated.{rotated}
 use Rattle.lists.proofs.Turns.{rotated_append}
 

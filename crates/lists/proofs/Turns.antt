@@ -1,5 +1,5 @@
 -- A list turned left.
-use Rattle.std.proofs.Common.{◌≡◌, ℕ, ◌+◌, ◌-◌, ◌<◌, ◌≤◌, List, [], ◌++◌, reverse, length, take, drop, sym, refl, ap, ◌∙◌, append-nil, arith, length-append, length-drop}
+use Rattle.std.proofs.Common.{◌≡◌, ℕ, ◌+◌, ◌≤◌, List, ◌++◌, reverse, length, take, drop, refl, ap, ◌∙◌, append-nil, arith, length-drop}
 use mathlib.Core.List.{reverse-append, reverse-reverse}
 use borrow.Rule.Slice.PartMut.{put_mid, post_of}
 use Rattle.std.proofs.lemmas.List.{take_at, drop_at, take_all, drop_all, length-take-le, length-reverse}

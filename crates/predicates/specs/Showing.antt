@@ -1,5 +1,5 @@
 -- What showing an item to a predicate gives, and what showing a whole list gives.
-use Rattle.std.specs.Prelude.{ℕ, Bool, true, false, cond, List, [], ◌∷◌, Some, None, fold, Option, slice_set}
+use Rattle.std.specs.Prelude.{ℕ, Bool, false, List, [], ◌∷◌, Some, None, fold, Option, slice_set}
 
 pub record Shown (S T : Type 0) : Type 0 where
   pub answer : Bool

@@ -1,4 +1,4 @@
-use Rattle.std.proofs.Common.{◌≡◌, take, fold, refl, ap, ◌∙◌, arith, take_all, rules}
+use Rattle.std.proofs.Common.{◌≡◌, fold, refl, ap, ◌∙◌, arith, take_all, rules}
 use Rattle.std.proofs.lemmas.List.Sums.{fold_more}
 use Rattle.bins.proofs.Counts.{counted}
 use Rattle.bins.proofs.sending.send_all.Goals as goal

@@ -1,5 +1,5 @@
 -- Each way brings the two parts of the ring together at the new front.
-use Rattle.std.proofs.Common.{◌≡◌, ℕ, ◌+◌, ◌-◌, ◌≤◌, length, arith}
+use Rattle.std.proofs.Common.{◌≡◌, ◌+◌, ◌-◌, arith}
 use Rattle.std.proofs.lemmas.Bool.Decides.{nat_tests}
 use Rattle.lists.proofs.Pastes.{joined_down, joined_up, joined_by_turn_up, joined_by_turn_down}
 use Rattle.deque.specs.Ring.{new_front}

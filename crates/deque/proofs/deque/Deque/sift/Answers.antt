@@ -1,4 +1,4 @@
-use Rattle.std.proofs.Common.{◌≡◌, set, sym, refl, ap, ◌∙◌, arith}
+use Rattle.std.proofs.Common.{sym, refl, ap, ◌∙◌, arith}
 use Rattle.deque.proofs.Sifting.{Sifting, sifting_at, sifting_none, sifting_no, sifting_first, sifting_swap, sifted_number, sifted_list, sifted_state}
 use Rattle.deque.proofs.deque.Deque.sift.Goals as goal
 use Rattle.deque.proofs.deque.Deque.sift.Goals.{else-leading-test, then-leading-test+then-not-yes}

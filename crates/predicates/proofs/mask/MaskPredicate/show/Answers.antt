@@ -1,5 +1,4 @@
 use Rattle.std.proofs.Common.{sym, ap}
-use Rattle.predicates.specs.Showing.{Shown}
 use Rattle.predicates.proofs.Flags.{mask_past, mask_next}
 use Rattle.predicates.proofs.mask.MaskPredicate.show.Goals as goal
 
