@@ -10,4 +10,4 @@ pub returns-then-words-gt3 : goal.returns-then-words-gt3
 returns-then-words-gt3 c = search (rules, change_many)
 
 pub returns : goal.returns
-returns c = IfOk-weaker c.change-by.result _ _ (λ v e. e ∙ change_is c.args.words.now _ _ _ c.if-words-lt3.false c.if-words-gt3.false) c.change-by.ensures
+returns c = IfOk-weaker c.change_by.result _ _ (λ v e. e ∙ change_is c.args.words.now _ _ _ c.if-words-lt3.false c.if-words-gt3.false) c.change_by.ensures

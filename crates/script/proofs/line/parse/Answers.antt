@@ -10,6 +10,6 @@ returns-then-words-eq0 c = search (rules, command_none)
 
 pub returns : goal.returns
 returns c =
-    let ws = c.as-slice-words.result.now in
-    let read : held ws ≡ words c.args.line.now = ap held c.as-slice-words.ensures.value ∙ c.in-ok-words.ensures in
+    let ws = c.as_slice-words.result.now in
+    let read : held ws ≡ words c.args.line.now = ap held c.as_slice-words.ensures.value ∙ c.in_ok-words.ensures in
     IfOk-weaker c.asked.result _ _ (λ v e. e ∙ (sym (command_some ws _ c.if-words-eq0.false) ∙ ap command read)) c.asked.ensures

@@ -12,7 +12,7 @@ loop-i-preserved c =
     let ws = c.args.words.now in
     let i = c.loop-i.i in
     let xs = vec_items c.loop-i.items in
-    ap (λ (l : List ℕ). onto l (items (i + 1 + 1) (held (drop (i + 1) ws)))) c.in-ok-push.ensures.items
+    ap (λ (l : List ℕ). onto l (items (i + 1 + 1) (held (drop (i + 1) ws)))) c.in_ok-push-in-Some.ensures.items
     ∙ sym (items_more ws i xs _ c.in-Some.n c.loop-i-test.true (sym c.in-Some.ensures)) ∙ c.loop-i.invariant
 
 pub returns : goal.returns

@@ -9,4 +9,4 @@ pub returns-then-words-gt1 : goal.returns-then-words-gt1
 returns-then-words-gt1 c = search (rules, one_many)
 
 pub returns : goal.returns
-returns c = c.number-at.ensures.value ∙ one_is c.args.max c.args.words.now _ c.if-words-lt1.false c.if-words-gt1.false
+returns c = c.number_at.ensures.value ∙ one_is c.args.max c.args.words.now _ c.if-words-lt1.false c.if-words-gt1.false

@@ -18,7 +18,7 @@ pub loop-c-preserved : goal.loop-c-preserved
 loop-c-preserved c =
     let w = c.args.word.now in
     let i = c.loop-c.c-index in
-    ap (λ (l : List Bool). onto l (flags (drop (i + 1) w))) c.in-ok-push.ensures.items
+    ap (λ (l : List Bool). onto l (flags (drop (i + 1) w))) c.in_ok-push.ensures.items
     ∙ sym (flags_more w i (vec_items c.loop-c.flags) c.loop-c-test.true c.if-c-lt48.false c.if-c-gt49.false) ∙ c.loop-c.invariant
 
 pub returns : goal.returns

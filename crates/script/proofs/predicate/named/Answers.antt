@@ -2,5 +2,5 @@ use Rattle.script.specs.Names.{kinds}
 use Rattle.script.proofs.Lookup.{lookup_absent}
 use Rattle.script.proofs.predicate.named.Goals as goal
 
-pub returns-in-default : goal.returns-in-default
-returns-in-default c = let h = c.in-default in lookup_absent kinds c.args.word.now (h.not-at-least, (h.not-adding, (h.not-mask, tt)))
+pub returns-in_default : goal.returns-in_default
+returns-in_default c = let h = c.in_default in lookup_absent kinds c.args.word.now (h.not-at_least, (h.not-adding, (h.not-mask, tt)))
