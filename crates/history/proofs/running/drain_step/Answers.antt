@@ -26,8 +26,8 @@ returns-in-Next g c =
     let p = c.args.drain.ring.places in
     let xs = c.args.slots.now in
     let q = c.args.request.now in
-    let end = c.lent-part-end.result - 0 in
-    let part = part_end c.lent-part-end.result c.capacity.result p.capacity q.lent (length xs) c.lent-part-end.ensures.value (c.capacity.ensures ∙ ap (λ r. r.capacity) c.places.ensures) in
+    let end = c.lent_part-end.result - 0 in
+    let part = part_end c.lent_part-end.result c.capacity.result p.capacity q.lent (length xs) c.lent_part-end.ensures.value (c.capacity.ensures ∙ ap (λ r. r.capacity) c.places.ensures) in
     let s = next_arm takes rule hears p xs (map bin_state bs) (map predicate_state rs) q end c.requires part c.in-Next.from (meant q.call c.in-Some.asked (sym c.in-Some.ensures) ∙ ap call_of c.in-Next.is)
     c.next-answer.new.drain.ring.places c.next-answer.result h (g.L.Listener.state c.hear-in-Next.new.self)
     c.next-answer.ensures.places c.next-answer.ensures.answer c.hear-in-Next.ensures in
@@ -46,8 +46,8 @@ returns-in-Len g c =
     let p = c.args.drain.ring.places in
     let xs = c.args.slots.now in
     let q = c.args.request.now in
-    let end = c.lent-part-end.result - 0 in
-    let part = part_end c.lent-part-end.result c.capacity.result p.capacity q.lent (length xs) c.lent-part-end.ensures.value (c.capacity.ensures ∙ ap (λ r. r.capacity) c.places.ensures) in
+    let end = c.lent_part-end.result - 0 in
+    let part = part_end c.lent_part-end.result c.capacity.result p.capacity q.lent (length xs) c.lent_part-end.ensures.value (c.capacity.ensures ∙ ap (λ r. r.capacity) c.places.ensures) in
     let s = drain_len_arm takes rule hears p xs (map bin_state bs) (map predicate_state rs) q end c.requires part (meant q.call c.in-Some.asked (sym c.in-Some.ensures) ∙ ap call_of c.in-Len.is)
     c.number-answer.result h (g.L.Listener.state c.hear-in-Len.new.self) (ap said (c.number-answer.ensures ∙ ap (answer_of Number) c.len.ensures) ∙ said_answer _ _ _) c.hear-in-Len.ensures in
     record { moment = s.moment; told = s.told }
@@ -83,8 +83,8 @@ returns-else-bin-bins g c =
     let p = c.args.drain.ring.places in
     let xs = c.args.slots.now in
     let q = c.args.request.now in
-    let end = c.lent-part-end.result - 0 in
-    let part = part_end c.lent-part-end.result c.capacity.result p.capacity q.lent (length xs) c.lent-part-end.ensures.value (c.capacity.ensures ∙ ap (λ r. r.capacity) c.places.ensures) in
+    let end = c.lent_part-end.result - 0 in
+    let part = part_end c.lent_part-end.result c.capacity.result p.capacity q.lent (length xs) c.lent_part-end.ensures.value (c.capacity.ensures ∙ ap (λ r. r.capacity) c.places.ensures) in
     let s = close_arm takes rule hears bin_state predicate_state p xs bs rs q end c.requires part drain c.in-Finish.bin (meant q.call c.in-Some.asked (sym c.in-Some.ensures) ∙ ap call_of c.in-Finish.is) (ap (λ v. (true && v) && true) (within_yes bin_state bs c.in-Finish.bin c.if-bin-bins.false)) c.if-bin-bins.false
     c.index-bins-bin.result c.finish-stage.new.bin _ _ c.finish-stage.result.1 h (g.L.Listener.state c.hear-in-Finish.new.self)
     c.finish-stage.ensures.phase c.finish-stage.ensures.places c.finish-stage.ensures.bin c.finish-stage.ensures.answer c.hear-in-Finish.ensures in

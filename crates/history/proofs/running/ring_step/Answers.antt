@@ -21,8 +21,8 @@ returns-in-Edit g c =
     let p = c.args.ring.places in
     let xs = c.args.slots.now in
     let q = c.args.request.now in
-    let end = c.lent-part-end.result - 0 in
-    let part = part_end c.lent-part-end.result c.capacity.result p.capacity q.lent (length xs) c.lent-part-end.ensures.value (c.capacity.ensures ∙ ap (λ r. r.capacity) c.places.ensures) in
+    let end = c.lent_part-end.result - 0 in
+    let part = part_end c.lent_part-end.result c.capacity.result p.capacity q.lent (length xs) c.lent_part-end.ensures.value (c.capacity.ensures ∙ ap (λ r. r.capacity) c.places.ensures) in
     let s = edit_arm takes rule hears p xs (map bin_state bs) (map predicate_state rs) q end c.requires part c.in-Edit.what c.in-Edit.is
     c.edit-answer.new.ring.places c.edit-answer.new.slots c.edit-answer.result h (g.L.Listener.state c.hear.new.self)
     c.edit-answer.ensures.lies c.edit-answer.ensures.answer c.hear.ensures in
@@ -59,8 +59,8 @@ returns-else-predicate-predicates g c =
     let p = c.args.ring.places in
     let xs = c.args.slots.now in
     let q = c.args.request.now in
-    let end = c.lent-part-end.result - 0 in
-    let part = part_end c.lent-part-end.result c.capacity.result p.capacity q.lent (length xs) c.lent-part-end.ensures.value (c.capacity.ensures ∙ ap (λ r. r.capacity) c.places.ensures) in
+    let end = c.lent_part-end.result - 0 in
+    let part = part_end c.lent_part-end.result c.capacity.result p.capacity q.lent (length xs) c.lent_part-end.ensures.value (c.capacity.ensures ∙ ap (λ r. r.capacity) c.places.ensures) in
     let s = test_arm takes rule hears bin_state predicate_state p xs bs rs q end c.requires part c.in-Test.what c.in-Test.predicate c.in-Test.is c.if-predicate-predicates.false
     c.index-predicates-predicate.result c.test-answer.new.predicate c.test-answer.new.ring.places c.test-answer.new.slots c.test-answer.result h (g.L.Listener.state c.hear-in-Test.new.self)
     c.test-answer.ensures.lies c.test-answer.ensures.predicate c.test-answer.ensures.answer c.hear-in-Test.ensures in
@@ -97,8 +97,8 @@ returns-else-bin-bins g c =
     let p = c.args.ring.places in
     let xs = c.args.slots.now in
     let q = c.args.request.now in
-    let end = c.lent-part-end.result - 0 in
-    let part = part_end c.lent-part-end.result c.capacity.result p.capacity q.lent (length xs) c.lent-part-end.ensures.value (c.capacity.ensures ∙ ap (λ r. r.capacity) c.places.ensures) in
+    let end = c.lent_part-end.result - 0 in
+    let part = part_end c.lent_part-end.result c.capacity.result p.capacity q.lent (length xs) c.lent_part-end.ensures.value (c.capacity.ensures ∙ ap (λ r. r.capacity) c.places.ensures) in
     let s = release_arm takes rule hears bin_state predicate_state p xs bs rs q end c.requires part c.in-Release.what c.in-Release.bin c.in-Release.is c.if-bin-bins.false
     c.index-bins-bin.result c.release-answer.new.bin c.release-answer.new.ring.places c.release-answer.result h (g.L.Listener.state c.hear-in-Release.new.self)
     c.release-answer.ensures.lies c.release-answer.ensures.bin c.release-answer.ensures.answer c.hear-in-Release.ensures in
@@ -154,8 +154,8 @@ returns-else-predicate-predicates-2 g c =
     let p = c.args.ring.places in
     let xs = c.args.slots.now in
     let q = c.args.request.now in
-    let end = c.lent-part-end.result - 0 in
-    let part = part_end c.lent-part-end.result c.capacity.result p.capacity q.lent (length xs) c.lent-part-end.ensures.value (c.capacity.ensures ∙ ap (λ r. r.capacity) c.places.ensures) in
+    let end = c.lent_part-end.result - 0 in
+    let part = part_end c.lent_part-end.result c.capacity.result p.capacity q.lent (length xs) c.lent_part-end.ensures.value (c.capacity.ensures ∙ ap (λ r. r.capacity) c.places.ensures) in
     let s = retain_arm takes rule hears bin_state predicate_state p xs bs rs q end c.requires part c.in-Retain.predicate c.in-Retain.bin c.in-Retain.is c.if-predicate-predicates-2.false c.if-bin-bins-2.false
     c.index-predicates-predicate-in-Retain.result c.retain-answer.new.predicate c.index-bins-bin-in-Retain.result c.retain-answer.new.bin c.retain-answer.new.ring.places c.retain-answer.new.slots c.retain-answer.result h (g.L.Listener.state c.hear-in-Retain.new.self)
     c.retain-answer.ensures.lies c.retain-answer.ensures.predicate c.retain-answer.ensures.bin c.retain-answer.ensures.answer c.hear-in-Retain.ensures in
@@ -174,8 +174,8 @@ returns-in-Read g c =
     let p = c.args.ring.places in
     let xs = c.args.slots.now in
     let q = c.args.request.now in
-    let end = c.lent-part-end.result - 0 in
-    let part = part_end c.lent-part-end.result c.capacity.result p.capacity q.lent (length xs) c.lent-part-end.ensures.value (c.capacity.ensures ∙ ap (λ r. r.capacity) c.places.ensures) in
+    let end = c.lent_part-end.result - 0 in
+    let part = part_end c.lent_part-end.result c.capacity.result p.capacity q.lent (length xs) c.lent_part-end.ensures.value (c.capacity.ensures ∙ ap (λ r. r.capacity) c.places.ensures) in
     let s = read_arm takes rule hears p xs (map bin_state bs) (map predicate_state rs) q end c.requires part c.in-Read.what c.in-Read.is h (g.L.Listener.state c.read.new.listener) c.read.ensures in
     record { moment = s.moment; told = s.told }
 
@@ -192,10 +192,10 @@ returns-in-IntoIter g c =
     let p = c.args.ring.places in
     let xs = c.args.slots.now in
     let q = c.args.request.now in
-    let end = c.lent-part-end.result - 0 in
-    let part = part_end c.lent-part-end.result c.capacity.result p.capacity q.lent (length xs) c.lent-part-end.ensures.value (c.capacity.ensures ∙ ap (λ r. r.capacity) c.places.ensures) in
-    let s = into_iter_arm takes rule hears p xs (map bin_state bs) (map predicate_state rs) q end c.requires part c.in-IntoIter.is _ _ c.into-iter-stage.result.1 h (g.L.Listener.state c.hear-in-IntoIter.new.self)
-    c.into-iter-stage.ensures.phase c.into-iter-stage.ensures.places c.into-iter-stage.ensures.answer c.hear-in-IntoIter.ensures in
+    let end = c.lent_part-end.result - 0 in
+    let part = part_end c.lent_part-end.result c.capacity.result p.capacity q.lent (length xs) c.lent_part-end.ensures.value (c.capacity.ensures ∙ ap (λ r. r.capacity) c.places.ensures) in
+    let s = into_iter_arm takes rule hears p xs (map bin_state bs) (map predicate_state rs) q end c.requires part c.in-IntoIter.is _ _ c.into_iter-stage.result.1 h (g.L.Listener.state c.hear-in-IntoIter.new.self)
+    c.into_iter-stage.ensures.phase c.into_iter-stage.ensures.places c.into_iter-stage.ensures.answer c.hear-in-IntoIter.ensures in
     record { moment = s.moment; told = s.told }
 
 pub returns-then-bin-bins-3 : goal.returns-then-bin-bins-3
@@ -229,8 +229,8 @@ returns-else-bin-bins-3 g c =
     let p = c.args.ring.places in
     let xs = c.args.slots.now in
     let q = c.args.request.now in
-    let end = c.lent-part-end.result - 0 in
-    let part = part_end c.lent-part-end.result c.capacity.result p.capacity q.lent (length xs) c.lent-part-end.ensures.value (c.capacity.ensures ∙ ap (λ r. r.capacity) c.places.ensures) in
+    let end = c.lent_part-end.result - 0 in
+    let part = part_end c.lent_part-end.result c.capacity.result p.capacity q.lent (length xs) c.lent_part-end.ensures.value (c.capacity.ensures ∙ ap (λ r. r.capacity) c.places.ensures) in
     let s = close_arm takes rule hears bin_state predicate_state p xs bs rs q end c.requires part ring c.in-Close.bin c.in-Close.is (ap (λ v. (true && v) && true) (within_yes bin_state bs c.in-Close.bin c.if-bin-bins-3.false)) c.if-bin-bins-3.false
     c.index-bins-bin-in-Close.result c.close-stage.new.bin _ _ c.close-stage.result.1 h (g.L.Listener.state c.hear-in-Close.new.self)
     c.close-stage.ensures.phase c.close-stage.ensures.places c.close-stage.ensures.bin c.close-stage.ensures.answer c.hear-in-Close.ensures in
