@@ -1,19 +1,17 @@
 -- Each accepted call keeps the books: what comes in is what goes out.
-use Rattle.std.proofs.Common.{◌≡◌, ℕ, ◌-◌, ◌<◌, ◌≤◌, Bool, true, false, cond, ltb, leb, List, [], ◌∷◌, ◌++◌, map, length, take, drop, set, Some, None, fold, Option, sym, refl, ap, ◌∙◌, subst, arith}
+use Rattle.std.proofs.Common.{◌≡◌, ℕ, ◌-◌, ◌<◌, cond, ltb, List, [], ◌∷◌, ◌++◌, map, length, set, Some, None, fold, Option, sym, refl, ap, ◌∙◌, arith}
 use mathlib.Core.List.Perm
 use mathlib.Core.List.{Perm, perm_middle, perm_append_singleton, perm_append_comm}
 use Rattle.std.specs.List.{slice_get, swap}
 use Rattle.std.specs.Option.{option_to_list}
 use Rattle.std.proofs.lemmas.List.{append-nil, append_assoc, take-append-drop}
 use Rattle.std.proofs.lemmas.Bool.{cond_both, ltb-true, leb-false}
-use Rattle.fault.specs.Refusing.{when, first}
 use Rattle.predicates.specs.Showing.{Shown, yes_to, left, stored, showings}
 use Rattle.deque.specs.Plain as plain
-use Rattle.deque.specs.Refusals as refusals
 use Rattle.deque.specs.Sifting.{Sifted, sift, first_to_end, kept, rest}
 use Rattle.lists.proofs.Bags.{equal_bag, set_bag, exchanged_bag, front_bag, back_bag}
 use Rattle.calls.specs.Calls.{edit_refusal, refusal}
-use Rattle.calls.specs.PlainList.{Turn, comes_to, nothing, edit_turn, release_turn, test_turn, retain_turn, with_predicate, turn, popped, item_at}
+use Rattle.calls.specs.PlainList.{Turn, edit_turn, release_turn, test_turn, retain_turn, with_predicate, turn, popped}
 use Rattle.calls.specs.declared.call.End.{End}
 use Rattle.calls.specs.declared.call.End.TheVariants.{Front, Back}
 use Rattle.calls.specs.declared.call.Edit.{Edit}

@@ -1,27 +1,24 @@
 -- The ring and the plain list go together, request by request and over whole histories.
-use Rattle.std.proofs.Common.{◌≡◌, ℕ, ◌+◌, ◌%◌, ◌^◌, ◌<◌, ◌≤◌, min, Bool, true, false, cond, List, [], ◌∷◌, ◌++◌, map, length, take, Some, None, fold, Option, sym, refl, ap, ◌∙◌, subst, ap₂, subst₂, arith}
+use Rattle.std.proofs.Common.{◌≡◌, ℕ, ◌+◌, ◌%◌, ◌^◌, ◌<◌, ◌≤◌, true, false, cond, List, [], ◌∷◌, ◌++◌, map, length, Some, None, fold, Option, sym, refl, ap, ◌∙◌, subst, ap₂, subst₂, arith}
 use mathlib.Core.Path.{subst₃}
 use mathlib.Core.List.{Perm}
 use Rattle.std.specs.List.{slice_get}
 use Rattle.std.proofs.lemmas.List.{append-nil}
 use Rattle.fault.specs.declared.Fault.{Fault}
-use Rattle.fault.specs.Refusing.{unless}
 use Rattle.predicates.specs.Showing.{Shown}
 use Rattle.bins.proofs.Counts.{counted}
 use Rattle.places.specs.declared.Places.{Places}
 use Rattle.deque.specs.Sound.{Sound}
 use Rattle.deque.specs.Ring.{contents}
-use Rattle.deque.specs.Ring as parts
 use Rattle.deque.specs.Moves as moves
 use Rattle.deque.proofs.Contents.{length_contents, contents_none}
-use Rattle.calls.specs.Calls.{Phase, bin_of, predicate_of, next_phase, refusal, brings, made}
-use Rattle.calls.specs.Answers.{Heard, said, slices, walked, unless_refused, answer_plainly, plainly, answer_idle, idle, struck}
+use Rattle.calls.specs.Calls.{bin_of, predicate_of, next_phase, refusal, made}
+use Rattle.calls.specs.Answers.{Heard, said, slices, walked, plainly, idle, struck}
 use Rattle.calls.specs.PlainList.{Plain, Step, Flow, Turn, turn, test_turn, edit_turn, release_turn, retain_turn, with_predicate, reading, nothing, next_state, moved_at, turned}
 use Rattle.calls.specs.PlainList as plain_list
 use Rattle.calls.specs.RingAt.{Lies, lie, list_of, lies_after, answer_told, told, Moment, Happened, plain_of, acts}
 use Rattle.calls.specs.RingAt as ring_at
-use Rattle.calls.specs.Law.{making, Holds, FollowsThePlainList, NothingLostOrDoubled, BinsByTheirOwnRules, IdleCallsCanBeStruckOut}
-use Rattle.calls.specs.declared.answer.Answer.{Answer}
+use Rattle.calls.specs.Law.{making, Holds}
 use Rattle.calls.specs.declared.answer.Answer.TheVariants.{Unmade, Refused, Done, Item, Verdict, Number, Flag, Contiguous}
 use Rattle.calls.specs.declared.call.Edit.{Edit}
 use Rattle.calls.specs.declared.call.Edit.TheVariants.{Load, Push, Pop, Swap, SwapRemove, MakeContiguous}
@@ -35,7 +32,7 @@ use Rattle.calls.specs.declared.call.Call.{Call}
 use Rattle.calls.specs.declared.call.Call.TheVariants.{Edit as Edits, Test as Tests, Release as Releases, Retain, Read as Reads, IntoIter, Close}
 use Rattle.calls.specs.declared.call.Request.{Request}
 use Rattle.calls.proofs.PlainLaws.{run_balanced, struck_run, struck_answers, effective_of, unmoved_at, length_moved_at, fed, bins_run, struck_bins, bins_fed}
-use Rattle.calls.proofs.RingLaw.{Good, ring_law}
+use Rattle.calls.proofs.RingLaw.{ring_law}
 
 module _ {T : Type 0} where
   idle_plainly : (a : Heard T) → idle (plainly a) ≡ idle a

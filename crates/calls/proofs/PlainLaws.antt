@@ -1,20 +1,15 @@
 -- Laws of the plain list over whole runs.
-use Rattle.std.proofs.Common.{◌≡◌, ℕ, zero, suc, ◌+◌, ◌%◌, ◌^◌, Bool, true, false, cond, eqb, ltb, List, [], ◌∷◌, ◌++◌, length, Some, None, fold, Option, sym, refl, ap, ◌∙◌, subst, subst₂}
+use Rattle.std.proofs.Common.{◌≡◌, ℕ, zero, suc, Bool, true, false, cond, eqb, List, [], ◌∷◌, ◌++◌, length, Some, None, fold, Option, sym, refl, ap, ◌∙◌, subst, subst₂}
 use mathlib.Core.List.{Perm}
 use lib.Dec.{eqb-zero-suc, eqb-suc-zero, eqb-suc-suc}
 use Rattle.std.specs.List.{slice_get}
 use Rattle.std.proofs.lemmas.Bool.{cond_both, false≢true}
 use Rattle.fault.specs.declared.Fault.{Fault}
-use Rattle.fault.specs.Refusing.{unless}
 use Rattle.predicates.specs.Showing.{Shown}
-use Rattle.deque.specs.Plain as plain
 use Rattle.lists.proofs.Bags.{step_bag}
-use Rattle.calls.specs.Calls.{bin_of, predicate_of, refusal, made}
+use Rattle.calls.specs.Calls.{bin_of, refusal, made}
 use Rattle.calls.specs.Answers.{Heard, idle, struck}
-use Rattle.calls.specs.PlainList.{Plain, Step, Flow, Turn, turn, test_turn, edit_turn, release_turn, retain_turn, with_predicate, reading, nothing, next_state, modified, moved_at, names, turned, step, run, answers, all, all_binned_in}
-use Rattle.calls.specs.declared.call.End.{End}
-use Rattle.calls.specs.declared.call.End.TheVariants.{Front, Back}
-use Rattle.calls.specs.declared.call.Edit.{Edit}
+use Rattle.calls.specs.PlainList.{Plain, Step, Flow, Turn, test_turn, release_turn, retain_turn, with_predicate, reading, nothing, modified, moved_at, names, turned, step, run, answers, all, all_binned_in}
 use Rattle.calls.specs.declared.call.Edit.TheVariants.{Load, Push, Pop, Swap, SwapRemove, MakeContiguous}
 use Rattle.calls.specs.declared.call.Test.{Test}
 use Rattle.calls.specs.declared.call.Test.TheVariants.{PopIf, Change}
@@ -26,7 +21,7 @@ use Rattle.calls.specs.declared.call.Call.{Call}
 use Rattle.calls.specs.declared.call.Call.TheVariants.{Edit as Edits, Test as Tests, Release as Releases, Retain, Read as Reads, IntoIter, Close}
 use Rattle.calls.specs.declared.call.Request.{Request}
 use Rattle.calls.proofs.Refusing.{none≢some}
-use Rattle.calls.proofs.Balance.{Balanced, balanced, unmoved}
+use Rattle.calls.proofs.Balance.{balanced, unmoved}
 
 module _ {T P : Type 0} (rule : P → T → Shown P T) (capacity bin_count : ℕ) where
   -- what a step brings in is what it takes out

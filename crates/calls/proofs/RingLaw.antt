@@ -1,15 +1,14 @@
 -- Each accepted call leaves a ring whose list is the edit of the list before.
-use Rattle.std.proofs.Common.{◌≡◌, ℕ, zero, suc, ◌+◌, ◌-◌, ◌%◌, ◌<◌, ◌≤◌, min, Bool, true, false, cond, eqb, ltb, leb, List, [], ◌∷◌, ◌++◌, length, take, drop, set, Some, None, Option, sym, refl, ap, ◌∙◌, subst, inl, inr, mod-lt, arith, length-append, length-drop, length-set, length-take}
+use Rattle.std.proofs.Common.{◌≡◌, ℕ, zero, ◌+◌, ◌-◌, ◌<◌, ◌≤◌, min, Bool, true, false, cond, eqb, ltb, List, [], ◌++◌, length, take, drop, Some, None, Option, sym, refl, ap, ◌∙◌, subst, inl, inr, mod-lt, arith, length-append, length-drop, length-set, length-take}
 use Rattle.std.specs.List.{slice_get, swap}
 use Rattle.std.proofs.lemmas.List.Edits.{length-swap}
 use Rattle.std.proofs.lemmas.List.{take_at, take_all}
 use Rattle.std.proofs.lemmas.Option.{slice_get_past}
-use Rattle.std.proofs.lemmas.Bool.{cond_both, cases_lt, cases_eq, ltb-true, ltb-false, leb-false, eqb-true, eqb-false}
+use Rattle.std.proofs.lemmas.Bool.{cond_both, cases_lt, ltb-true, ltb-false, leb-false, eqb-true, eqb-false}
 use Rattle.predicates.specs.Showing.{Shown, yes_to, left, stored, showings}
-use Rattle.predicates.proofs.Shows.{length_stored}
 use Rattle.places.specs.declared.Places.{Places}
 use Rattle.deque.specs.Sound.{Sound}
-use Rattle.deque.specs.Ring.{slot, before, contents, lay, new_front}
+use Rattle.deque.specs.Ring.{slot, contents, lay}
 use Rattle.deque.specs.Plain as plain
 use Rattle.deque.specs.Moves.{placed}
 use Rattle.deque.specs.Moves as moves

@@ -5,7 +5,7 @@ use mathlib.Core.List.{Perm}
 use Rattle.std.specs.List.{slice_get}
 use Rattle.predicates.specs.Showing.{Shown}
 use Rattle.deque.specs.Moves as moves
-use Rattle.calls.specs.Calls.{Phase, ring}
+use Rattle.calls.specs.Calls.{ring}
 use Rattle.calls.specs.Answers.{Heard, plainly, struck}
 use Rattle.calls.specs.PlainList.{Plain, Flow}
 use Rattle.calls.specs.PlainList as plain_list

@@ -10,7 +10,7 @@ use Rattle.places.specs.declared.Places.{Places}
 use Rattle.deque.specs.Ring.{contents, at}
 use Rattle.deque.specs.Refusals as refusals
 use Rattle.deque.specs.Moves as moves
-use Rattle.calls.specs.Calls.{Phase, ring, drain, closed, bin_of, predicate_of, next_phase, refusal, edit_refusal, brings, edit_brings, of_drain, made}
+use Rattle.calls.specs.Calls.{Phase, ring, drain, closed, bin_of, predicate_of, next_phase, refusal, edit_refusal, brings, edit_brings, made}
 use Rattle.calls.specs.Answers.{Heard, said, unless_refused}
 use Rattle.calls.specs.PlainList.{Turn, turn, edit_turn, test_turn, release_turn, retain_turn, reading, popped, shown_item, next_state, modified, moved_at}
 use Rattle.calls.specs.PlainList as plain_list
@@ -22,7 +22,6 @@ use Rattle.calls.specs.declared.call.End.{End}
 use Rattle.calls.specs.declared.call.Edit.{Edit}
 use Rattle.calls.specs.declared.call.Edit.TheVariants.{Pop}
 use Rattle.calls.specs.declared.call.Test.{Test}
-use Rattle.calls.specs.declared.call.Test.TheVariants.{PopIf, Change}
 use Rattle.calls.specs.declared.call.Release.{Release}
 use Rattle.calls.specs.declared.call.Read.{Read}
 use Rattle.calls.specs.declared.call.Read.TheVariants.{Len}

@@ -1,9 +1,7 @@
 -- Which call it was that a drain was asked.
-use Rattle.std.proofs.Common.{◌≡◌, false, Some, None, Option, refl}
+use Rattle.std.proofs.Common.{◌≡◌, false, Some, None, refl}
 use Rattle.calls.specs.Calls.{of_drain}
-use Rattle.calls.specs.declared.call.Edit.{Edit}
 use Rattle.calls.specs.declared.call.Edit.TheVariants.{Load, Push, Pop, Swap, SwapRemove, MakeContiguous}
-use Rattle.calls.specs.declared.call.Read.{Read}
 use Rattle.calls.specs.declared.call.Read.TheVariants.{Get, AtEnd, Len, Capacity, IsEmpty, IsFull, Slices, Walk}
 use Rattle.calls.specs.declared.call.Call.{Call}
 use Rattle.calls.specs.declared.call.Call.TheVariants.{Edit as Edits, Test as Tests, Release as Releases, Retain, Read as Reads, IntoIter, Close}

@@ -1,5 +1,5 @@
 -- One turn of a loop: what is left to do leads to where all of it leads.
-use Rattle.std.proofs.Common.{◌≡◌, ℕ, ◌+◌, ◌<◌, ◌≤◌, List, [], ◌∷◌, ◌++◌, length, get_or, drop, fold, Option, sym, ap, ◌∙◌, ap₂}
+use Rattle.std.proofs.Common.{◌≡◌, ℕ, ◌+◌, ◌<◌, ◌≤◌, List, ◌∷◌, length, get_or, drop, fold, Option, sym, ap, ◌∙◌, ap₂}
 use Rattle.std.proofs.lemmas.List.{at_drop_more, at_drop_all}
 use Rattle.calls.specs.Answers.{Heard, said, walked}
 use Rattle.calls.specs.PlainList.{popped, walk}

@@ -1,5 +1,5 @@
 -- What a call of a ring answered, as the answer to a request; and what is heard of an answer.
-use Rattle.std.specs.Prelude.{List, [], ◌∷◌, map, Some, None, Ok, Err, Option, Result}
+use Rattle.std.specs.Prelude.{List, [], ◌∷◌, map, Some, None, Ok, Err, Result}
 use Rattle.std.specs.List.{flat_map}
 use Rattle.fault.specs.declared.Fault.{Fault}
 use Rattle.fault.specs.declared.Returned.{Returned}

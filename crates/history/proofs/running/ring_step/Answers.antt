@@ -1,5 +1,5 @@
 -- Each way out is an arm of the step: what its call leaves and answers, on the slots that it was lent.
-use Rattle.std.proofs.Common.{◌-◌, true, false, ◌&&◌, ltb, map, length, refl, ap, ◌∙◌}
+use Rattle.std.proofs.Common.{◌-◌, true, ◌&&◌, ltb, map, length, ap, ◌∙◌}
 use Rattle.calls.specs.Calls.{ring}
 use Rattle.calls.specs.declared.call.Call.TheVariants.{Test as Tests, Release as Releases, Retain, Close}
 use Rattle.history.specs.declared.stage.Stage.TheVariants.{Ring}

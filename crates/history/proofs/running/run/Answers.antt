@@ -1,4 +1,4 @@
-use Rattle.std.proofs.Common.{map, length, take, fold, sym, refl, ap, ◌∙◌, subst}
+use Rattle.std.proofs.Common.{map, take, fold, sym, refl, ap, ◌∙◌, subst}
 use Rattle.calls.specs.Calls.{ring}
 use Rattle.calls.specs.RingAt.{Moment, lie, run, answers}
 use Rattle.calls.proofs.Histories.{Fit, making_fit, step_fit, holds}

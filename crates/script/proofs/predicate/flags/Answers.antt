@@ -1,4 +1,4 @@
-use Rattle.std.proofs.Common.{◌≡◌, ◌+◌, ◌<◌, Bool, ◌⊎◌, List, get_or, drop, vec_items, sym, ap, ◌∙◌, inl, inr}
+use Rattle.std.proofs.Common.{◌+◌, ◌<◌, Bool, ◌⊎◌, List, get_or, drop, vec_items, sym, ap, ◌∙◌, inl, inr}
 use Rattle.script.specs.Text.{flags}
 use Rattle.script.proofs.Flagging.{onto, flags_stop, flags_more, flags_end}
 use Rattle.script.proofs.predicate.flags.Goals as goal

@@ -1,4 +1,4 @@
-use Rattle.std.proofs.Common.{◌-◌, length, take, drop, ap, arith, rules}
+use Rattle.std.proofs.Common.{◌-◌, length, take, drop, ap, arith}
 use Rattle.std.proofs.lemmas.List.{take_rest}
 use Rattle.script.proofs.Wording.{turn_words, turn_shorter}
 use Rattle.script.proofs.words.next.Goals as goal

@@ -1,6 +1,5 @@
 use Rattle.std.proofs.Common.{◌≡◌, true, false, cond, not, get_or, sym, ap, ◌∙◌, arith}
 use Rattle.std.proofs.lemmas.List.Sums.{prefix_len-drop_yes, prefix_len-drop_no, prefix_len-drop_all}
-use Rattle.script.specs.Text.{blank}
 use Rattle.script.proofs.Wording.{alike, unlike, like}
 use Rattle.script.proofs.words.run.Goals as goal
 
