@@ -2,7 +2,7 @@
 ghost use Rattle.std.specs.Prelude.{◌≡◌, ℕ, ◌+◌, ◌%◌, ◌^◌, IfOk};
 ghost use Rattle.std.specs.List.{slice_get};
 ghost use Rattle.bins.specs.Trays.{TrayState, tray_state, trayed, empty_tray, tray_of};
-ghost use Rattle.std.proofs.Common.{rules, arith};
+ghost use Rattle.std.proofs.Common.{rules};
 
 use crate::bin::Bin;
 use crate::sending::send_all;
@@ -54,11 +54,11 @@ impl<T: Copy> Bin<T> for Tray<T> {
 
     ghost reading = { λ s i. slice_get s.kept i };
 
-    ghost counts = { first_of (Prim.search rules, Prim.grind (arith, Self.row.coded.inj)) };
+    ghost counts = { Prim.search rules };
 
-    ghost fits = { first_of (Prim.search rules, Prim.grind (arith, Self.row.coded.inj)) };
+    ghost fits = { Prim.search rules };
 
-    ghost starts = { first_of (Prim.search rules, Prim.grind (arith, Self.row.coded.inj)) };
+    ghost starts = { Prim.search rules };
 
     fn take(&mut self, item: T) {
         if self.kept.len() < self.slots {
