@@ -4,7 +4,7 @@ use bins::{Bin, Pair, Tray};
 use deque::{CloseToken, Deque, MAX_CAPACITY};
 use fault::{Fault, Returned};
 use places::Places;
-use std::process::Abort;
+use std::fmt::Debug;
 use std::test::Fail;
 
 // Ends a ring that has all its slots.
@@ -123,73 +123,79 @@ fn as_many_slots_as_there_may_be(rt: HostRuntime) -> Result<(), Fail> {
     Ok(())
 }
 
+// An error where two values differ. A failed assert would end the test here, with its ring still open.
+fn check_eq<T: PartialEq + Debug + Drop>(found: T, wanted: T) -> Result<(), Fail> {
+    if found == wanted {
+        return Ok(());
+    }
+    Err(Fail::new(format_args!("{found:?}, and not {wanted:?}")))
+}
+
+fn check(holds: bool) -> Result<(), Fail> {
+    check_eq(holds, true)
+}
+
 // Each call of a ring of four slots that is lent three of them.
-fn ends(rt: &impl Abort, ring: &mut Deque, few: &mut [u8])
+fn ends(ring: &mut Deque, few: &mut [u8]) -> Result<(), Fail>
     ensures { ring.new.places.capacity ≡ ring.old.places.capacity }
 {
     let short = Fault::TooFewSlots(3);
     let pushed = ring.push_back(few, 5);
     let popped = ring.pop_front(few);
-    assert_eq!(rt;
+    check_eq(
         pushed,
         Err(Returned {
             fault: short,
             item: 5,
-        })
-    );
-    assert_eq!(rt; popped, Err(short));
+        }),
+    )?;
+    check_eq(popped, Err(short))
 }
 
-fn loads(rt: &impl Abort, ring: &mut Deque, few: &mut [u8], items: &[u8])
+fn loads(ring: &mut Deque, few: &mut [u8], items: &[u8]) -> Result<(), Fail>
     ensures { ring.new.places.capacity ≡ ring.old.places.capacity }
 {
     let short = Fault::TooFewSlots(3);
-    assert_eq!(rt; ring.load(few, items), Err(short));
+    check_eq(ring.load(few, items), Err(short))
 }
 
-fn removals(rt: &impl Abort, ring: &mut Deque, few: &mut [u8])
+fn removals(ring: &mut Deque, few: &mut [u8]) -> Result<(), Fail>
     ensures { ring.new.places.capacity ≡ ring.old.places.capacity }
 {
     let short = Fault::TooFewSlots(3);
-    assert_eq!(rt; ring.swap(few, 0, 0), Err(short));
-    assert_eq!(rt; ring.swap_remove_front(few, 0), Err(short));
+    check_eq(ring.swap(few, 0, 0), Err(short))?;
+    check_eq(ring.swap_remove_front(few, 0), Err(short))
 }
 
-fn lettings_go(rt: &impl Abort, ring: &mut Deque, few: &[u8], bin: &mut Tray<u8>)
+fn lettings_go(ring: &mut Deque, few: &[u8], bin: &mut Tray<u8>) -> Result<(), Fail>
     ensures { ring.new.places.capacity ≡ ring.old.places.capacity }
 {
     let short = Fault::TooFewSlots(3);
     let truncated = ring.truncate(few, 0, bin);
     let cleared = ring.clear(few, bin);
-    assert_eq!(rt; truncated, Err(short));
-    assert_eq!(rt; cleared, Err(short));
+    check_eq(truncated, Err(short))?;
+    check_eq(cleared, Err(short))
 }
 
-fn reads(rt: &impl Abort, ring: &Deque, few: &[u8]) {
+fn reads(ring: &Deque, few: &[u8]) -> Result<(), Fail> {
     let short = Fault::TooFewSlots(3);
-    assert_eq!(rt; ring.len(few), Err(short));
-    assert_eq!(rt; ring.capacity(few), Err(short));
-    assert_eq!(rt; ring.get(few, 0), Err(short));
-    assert!(rt; ring.as_slices(few).is_err());
-    assert!(rt; ring.iter(few).is_err());
+    check_eq(ring.len(few), Err(short))?;
+    check_eq(ring.capacity(few), Err(short))?;
+    check_eq(ring.get(few, 0), Err(short))?;
+    check(ring.as_slices(few).is_err())?;
+    check(ring.iter(few).is_err())?;
     let places = ring.places();
-    assert!(rt; places.is_empty() && places.front() == 0);
+    check(places.is_empty() && places.front() == 0)
 }
 
-fn every_call(
-    rt: &impl Abort,
-    ring: &mut Deque,
-    few: &mut [u8],
-    bin: &mut Tray<u8>,
-) -> Result<(), Fail>
+fn every_call(ring: &mut Deque, few: &mut [u8], bin: &mut Tray<u8>) -> Result<(), Fail>
     ensures { ring.new.places.capacity ≡ ring.old.places.capacity }
 {
-    ends(rt, ring, few);
-    loads(rt, ring, few, &[1, 2]);
-    removals(rt, ring, few);
-    lettings_go(rt, ring, few, bin);
-    reads(rt, ring, few);
-    Ok(())
+    ends(ring, few)?;
+    loads(ring, few, &[1, 2])?;
+    removals(ring, few)?;
+    lettings_go(ring, few, bin)?;
+    reads(ring, few)
 }
 
 #[test]
@@ -198,7 +204,7 @@ fn too_few_slots(rt: HostRuntime) -> Result<(), Fail> {
     let slots = [1u8, 2, 3, 4];
     let (mut ring, token) = Deque::new(&slots);
     let mut few = [9u8; 3];
-    let refused = every_call(&rt, &mut ring, &mut few, &mut bin);
+    let refused = every_call(&mut ring, &mut few, &mut bin);
     let closed = close(ring, token, &slots, &mut bin);
     refused?;
     assert_eq!(rt; few, [9u8; 3]);
