@@ -1,5 +1,5 @@
 -- Each way out is an arm of the step: what its call leaves and answers, on the slots that it was lent.
-use Rattle.std.proofs.Common.{◌-◌, true, ◌&&◌, ltb, map, length, ap, ◌∙◌}
+use Rattle.std.proofs.Common.{◌-◌, true, ◌&&◌, ltb, map, length, ap, ◌∙◌, arith}
 use Rattle.calls.specs.Calls.{ring}
 use Rattle.calls.specs.declared.call.Call.TheVariants.{Test as Tests, Release as Releases, Retain, Close}
 use Rattle.history.specs.declared.stage.Stage.TheVariants.{Ring}
@@ -80,7 +80,7 @@ returns-then-bin-bins g c =
     let xs = c.args.slots.now in
     let q = c.args.request.now in
     let m = moment_of g.B.Bin g.P.Predicate (Ring c.args.ring c.args.token) xs bs rs in
-    let s = unmade takes rule hears m q (Releases c.in-Release.what c.in-Release.bin) c.in-Release.is (ap (λ v. (true && v) && true) (within_no bin_state bs c.in-Release.bin c.if-bin-bins.true))
+    let s = unmade takes rule hears m q (Releases c.in-Release.what c.in-Release.bin) c.in-Release.is (ap (λ v. (true && v) && true) (within_no bin_state bs c.in-Release.bin (omega arith)))
     h (g.L.Listener.state c.hear-then-bin-bins.new.self) c.hear-then-bin-bins.ensures in
     record { moment = s.moment; told = s.told }
 
@@ -99,7 +99,7 @@ returns-else-bin-bins g c =
     let q = c.args.request.now in
     let end = c.lent_part-end.result - 0 in
     let part = part_end c.lent_part-end.result c.capacity.result p.capacity q.lent (length xs) c.lent_part-end.ensures.value (c.capacity.ensures ∙ ap (λ r. r.capacity) c.places.ensures) in
-    let s = release_arm takes rule hears bin_state predicate_state p xs bs rs q end c.requires part c.in-Release.what c.in-Release.bin c.in-Release.is c.if-bin-bins.false
+    let s = release_arm takes rule hears bin_state predicate_state p xs bs rs q end c.requires part c.in-Release.what c.in-Release.bin c.in-Release.is (omega arith)
     c.index-bins-bin.result c.release-answer.new.bin c.release-answer.new.ring.places c.release-answer.result h (g.L.Listener.state c.hear-in-Release.new.self)
     c.release-answer.ensures.lies c.release-answer.ensures.bin c.release-answer.ensures.answer c.hear-in-Release.ensures in
     record { moment = s.moment; told = s.told }

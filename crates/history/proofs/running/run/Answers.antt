@@ -1,7 +1,7 @@
-use Rattle.std.proofs.Common.{map, take, fold, sym, refl, ap, ◌∙◌, subst}
+use Rattle.std.proofs.Common.{map, take, fold, sym, refl, ap, ◌∙◌, subst, arith}
 use Rattle.calls.specs.Calls.{ring}
 use Rattle.calls.specs.RingAt.{Moment, lie, run, answers}
-use Rattle.calls.proofs.Histories.{Fit, making_fit, step_fit, holds}
+use Rattle.calls.proofs.Histories.{Fit, step_fit, holds}
 use Rattle.history.specs.Answering.{all_heard}
 use Rattle.history.specs.Standing.{moment_of}
 use Rattle.history.proofs.Turns.{put_more, put_all}
@@ -9,8 +9,7 @@ use Rattle.history.proofs.running.run.Goals as goal
 
 pub loop-request-init : goal.loop-request-init
 loop-request-init g c =
-    let xs = c.args.slots.now in
-    (subst (λ p. Fit (lie p xs)) (sym c.new.ensures.places) (making_fit g.B.Bin.rule g.P.Predicate.rule xs), (refl, refl))
+    (record { sound = c.new.result.0.ok; enough = omega (arith, ap (λ p. p.capacity) c.new.ensures.places) }, (refl, refl))
 
 pub loop-request-preserved : goal.loop-request-preserved
 loop-request-preserved g c =

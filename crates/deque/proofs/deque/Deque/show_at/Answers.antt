@@ -16,9 +16,10 @@ returns g c =
     let found = c.slot-at.ensures in
     let y = c.show.new.item in
     let there = sym (nth_contents_at p xs ok c.requires.enough i c.slot-at.result c.index-slots-at.result c.requires.within found) in
-    record {
-      answer = c.show.ensures.answer ∙ ap (yes_to rule s) there;
-      slots = ap (λ k. set xs k y) found ∙ ap (set xs (slot p i)) c.show.ensures.item ∙ ap (λ o. stored (left rule s o) (slot p i) xs) there;
-      list = ap (λ k. contents p (set xs k y)) found ∙ contents_set p xs ok c.requires.enough i y c.requires.within ∙ ap (set l i) c.show.ensures.item ∙ ap (λ o. stored (left rule s o) i l) there;
-      predicate = c.show.ensures.state ∙ ap (moved rule s) there;
-    }
+    let answers = ap (yes_to rule s) there in
+    let moves = ap (moved rule s) there in
+    let writes = ap (λ k. set xs k y) found ∙ ap (set xs (slot p i)) c.show.ensures.item in
+    let stores = ap (λ o. stored (left rule s o) (slot p i) xs) there in
+    let lists = ap (λ k. contents p (set xs k y)) found ∙ contents_set p xs ok c.requires.enough i y c.requires.within ∙ ap (set l i) c.show.ensures.item in
+    let is = ap (λ o. stored (left rule s o) i l) there in
+    record { answer = cc; slots = cc; list = cc; predicate = cc }

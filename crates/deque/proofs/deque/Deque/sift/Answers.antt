@@ -1,4 +1,4 @@
-use Rattle.std.proofs.Common.{sym, refl, ap, ◌∙◌, arith}
+use Rattle.std.proofs.Common.{◌≤◌, sym, refl, ap, ◌∙◌, arith}
 use Rattle.deque.proofs.Sifting.{Sifting, sifting_at, sifting_none, sifting_no, sifting_first, sifting_swap, sifted_number, sifted_list, sifted_state}
 use Rattle.deque.proofs.deque.Deque.sift.Goals as goal
 use Rattle.deque.proofs.deque.Deque.sift.Goals.{else-leading-test, then-leading-test+then-not-yes}
@@ -13,7 +13,7 @@ leading-preserved g c =
     let p = g.P.Predicate in
     let next =
     sifting_first c.args.self.now.places p.rule c.args.slots.now (p.state c.args.predicate.now) c.args.self.now.ok c.requires
-    _ _ _ _ c.leading.invariant.1 c.leading-test.true _ c.slot-at.ensures c.index-slots-at.result
+    _ _ _ _ c.leading.invariant.1 (omega arith) _ c.slot-at.ensures c.index-slots-at.result
     _ _ c.show-yes.ensures.item c.show-yes.ensures.state (sym c.show-yes.ensures.answer ∙ c.if-not-yes.false) c.leading.invariant.2 in
     (omega arith, next.0, next.1)
 
@@ -23,7 +23,7 @@ others-preserved-then-stays g c = (
   λ slots₀ s₀ room start.
       let x = c.index-slots-at-in-others.result in
       sifting_swap c.args.self.now.places g.P.Predicate.rule slots₀ s₀ c.args.self.now.ok room
-      _ _ _ _ (c.others.invariant.1 slots₀ s₀ room start) c.others-test.true _ c.slot-at-in-others.ensures x
+      _ _ _ _ (c.others.invariant.1 slots₀ s₀ room start) (omega arith) _ c.slot-at-in-others.ensures x
       _ _ c.show-stays.ensures.item c.show-stays.ensures.state (sym c.show-stays.ensures.answer ∙ c.if-stays.true)
       _ c.slot.ensures _ (c.swap.ensures.by_index.3 x),
 )
@@ -33,7 +33,7 @@ others-preserved g c = (
   omega arith,
   λ slots₀ s₀ room start.
       sifting_no c.args.self.now.places g.P.Predicate.rule slots₀ s₀ c.args.self.now.ok room
-      _ _ _ _ (c.others.invariant.1 slots₀ s₀ room start) c.others-test.true _ c.slot-at-in-others.ensures c.index-slots-at-in-others.result
+      _ _ _ _ (c.others.invariant.1 slots₀ s₀ room start) (omega arith) _ c.slot-at-in-others.ensures c.index-slots-at-in-others.result
       _ _ c.show-stays.ensures.item c.show-stays.ensures.state (sym c.show-stays.ensures.answer ∙ c.if-stays.false),
 )
 
@@ -49,11 +49,11 @@ returns g c =
       | then-leading-test+then-not-yes w ↦
           sifting_at d p.rule slots₀ s₀ _ _ _ _ _ _ _ w.slots-is (ap p.state w.predicate-is) w.cur-is
           (sifting_no d p.rule slots₀ s₀ c.args.self.now.ok c.requires
-          _ _ _ _ c.leading.invariant.1 w.leading-test.true _ w.slot-at.ensures w.index-slots-at.result
+          _ _ _ _ c.leading.invariant.1 (omega arith) _ w.slot-at.ensures w.index-slots-at.result
           _ _ w.show-yes.ensures.item w.show-yes.ensures.state (sym w.show-yes.ensures.answer ∙ w.if-not-yes.true))
     ] in
     let end = c.others.invariant.1 slots₀ s₀ c.requires led in
-    let all = c.others-test.false in
+    let all : d.len ≤ c.others.cur = omega arith in
     record {
       result = sifted_number d p.rule slots₀ s₀ c.args.self.now.ok c.requires _ _ _ _ end all;
       slots = sifted_list d p.rule slots₀ s₀ c.args.self.now.ok c.requires _ _ _ _ end all;
