@@ -22,7 +22,7 @@ abbrev pub answer : {A : Type 0} → Option Fault → A → Result A Fault
 answer (Some fault) value = Err fault
 answer None value = Ok value
 
--- the same of a call that was offered an item, which a refusal gives back
+-- the same of a call that takes what a refusal gives back: an item, or a ring with its token
 abbrev pub answer_or_return : {A T : Type 0} → Option Fault → T → A → Result A (Returned T)
-answer_or_return (Some fault) item value = Err (record { fault = fault; item = item })
-answer_or_return None item value = Ok value
+answer_or_return (Some fault) given value = Err (record { fault = fault; given = given })
+answer_or_return None given value = Ok value

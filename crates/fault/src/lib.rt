@@ -31,11 +31,11 @@ pub enum Fault {
     TooMany(usize),
 }
 
-// A refusal that gives back the item that it was offered.
+// A refusal that gives back what the call was given.
 #[derive(Clone, Copy, Debug, PartialEq, Eq)]
 pub struct Returned<T> {
     pub fault: Fault,
-    pub item: T,
+    pub given: T,
 }
 
 impl Fault {

@@ -1,7 +1,13 @@
-// Where a ring lies in its slots.
+// Where a ring lies in its slots, and its two ends.
 #![tactic(auto)]
 
-ghost use Rattle.std.specs.Prelude.{◌≡◌, eqb};
+ghost use Rattle.std.specs.Prelude.{◌≡◌, ◌==◌};
+
+#[derive(Clone, Copy, Debug, PartialEq, Eq)]
+pub enum End {
+    Front,
+    Back,
+}
 
 // The list begins at the slot `front`, is `len` items long, and goes on at slot 0 after slot `capacity` - 1.
 #[derive(Clone, Copy, Debug, PartialEq, Eq)]
@@ -31,14 +37,14 @@ impl Places {
     }
 
     pub fn is_empty(&self) -> bool
-        ensures { result ≡ eqb self.now.len 0 }
+        ensures { result ≡ (self.now.len == 0) }
     {
         let Places { len, .. } = *self;
         len == 0
     }
 
     pub fn is_full(&self) -> bool
-        ensures { result ≡ eqb self.now.len self.now.capacity }
+        ensures { result ≡ (self.now.len == self.now.capacity) }
     {
         let Places { capacity, len, .. } = *self;
         len == capacity
