@@ -5,5 +5,4 @@ pub mod Sifting
 pub mod Plain
 pub mod Moves
 pub mod Writes
-pub mod Closing
 pub mod Rows

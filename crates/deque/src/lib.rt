@@ -5,8 +5,7 @@ pub mod deque;
 mod rotation;
 pub mod rows;
 
-pub use deque::closing::Unclosed;
-pub use deque::draining::{IntoIter, Unfinished, Unmoved};
+pub use deque::draining::IntoIter;
 pub use deque::ends::MAX_CAPACITY;
 pub use deque::{CloseToken, Deque};
 pub use rows::rows_hold;

@@ -1,22 +1,14 @@
 // Letting items go into a bin, and closing the ring.
 ghost use Rattle.std.specs.Prelude.{◌≡◌, ℕ, ◌≤◌, length, drop, fold};
-ghost use Rattle.fault.specs.Refusing.{unless, answer};
+ghost use Rattle.fault.specs.Refusing.{unless, answer, answer_or_return};
 ghost use Rattle.deque.specs.Ring.{contents, at};
 ghost use Rattle.deque.specs.Refusals as refusal;
 ghost use Rattle.deque.specs.Plain as plain;
 ghost use Rattle.deque.specs.Moves as moves;
-ghost use Rattle.deque.specs.Closing.{answer_or_keep};
 
 use crate::deque::{CloseToken, Deque};
 use bins::Bin;
-use fault::Fault;
-
-// A refused closing, with the ring and the token that it was given.
-pub struct Unclosed {
-    pub fault: Fault,
-    pub ring: Deque,
-    pub token: CloseToken,
-}
+use fault::{Fault, Returned};
 
 impl Deque {
     // Bins the items from the index `from` on, in list order.
@@ -73,15 +65,14 @@ impl Deque {
         token: CloseToken,
         slots: &[T],
         bin: &mut B,
-    ) -> Result<usize, Unclosed>
-        ensures result { let p = self.places in let xs = slots.now in result ≡ answer_or_keep (at p xs refusal.slots) self token (plain.clear (contents p xs)).answer }
+    ) -> Result<usize, Returned<(Deque, CloseToken)>>
+        ensures result { let p = self.places in let xs = slots.now in result ≡ answer_or_return (at p xs refusal.slots) (self, token) (plain.clear (contents p xs)).answer }
         ensures bin { let p = self.places in let xs = slots.now in let s = B.state bin.old in B.state bin.new ≡ unless (at p xs refusal.slots) s (fold B.rule s (plain.clear (contents p xs)).binned) }
     {
         if let Err(fault) = self.lent(slots) {
-            return Err(Unclosed {
+            return Err(Returned {
                 fault,
-                ring: self,
-                token,
+                given: (self, token),
             });
         }
         self.bin_from(slots, 0, bin);

@@ -1,16 +1,14 @@
 // A ring that is only emptied.
 ghost use Rattle.std.specs.Prelude.{◌≡◌, length, fold};
-ghost use Rattle.fault.specs.Refusing.{unless, answer};
+ghost use Rattle.fault.specs.Refusing.{unless, answer, answer_or_return};
 ghost use Rattle.deque.specs.Ring.{contents, at};
 ghost use Rattle.deque.specs.Refusals as refusal;
 ghost use Rattle.deque.specs.Plain as plain;
 ghost use Rattle.deque.specs.Moves as moves;
-ghost use Rattle.deque.specs.Closing.{drain_or_keep, answer_or_keep_drain};
 
-use crate::deque::closing::Unclosed;
 use crate::deque::{CloseToken, Deque};
 use bins::Bin;
-use fault::Fault;
+use fault::{Fault, Returned};
 use places::Places;
 
 // A ring moved: items leave it at either end, until `finish`.
@@ -18,26 +16,13 @@ pub struct IntoIter {
     pub(crate) ring: Deque,
 }
 
-// A refused `into_iter`, with the ring that it was given.
-pub struct Unmoved {
-    pub fault: Fault,
-    pub ring: Deque,
-}
-
-// A refused `finish`, with the drain and the token that it was given.
-pub struct Unfinished {
-    pub fault: Fault,
-    pub drain: IntoIter,
-    pub token: CloseToken,
-}
-
 impl Deque {
     // Moves the ring into a drain; its token stays with the caller. A refusal gives the ring back.
-    pub fn into_iter<T>(self, slots: &[T]) -> Result<IntoIter, Unmoved>
-        ensures { result ≡ drain_or_keep (at self.places slots.now refusal.slots) self }
+    pub fn into_iter<T>(self, slots: &[T]) -> Result<IntoIter, Returned<Deque>>
+        ensures { result ≡ answer_or_return (at self.places slots.now refusal.slots) self (record { ring = self }) }
     {
         if let Err(fault) = self.lent(slots) {
-            return Err(Unmoved { fault, ring: self });
+            return Err(Returned { fault, given: self });
         }
         Ok(IntoIter { ring: self })
     }
@@ -82,20 +67,19 @@ impl IntoIter {
         token: CloseToken,
         slots: &[T],
         bin: &mut B,
-    ) -> Result<usize, Unfinished>
-        ensures result { let p = self.ring.places in let xs = slots.now in result ≡ answer_or_keep_drain (at p xs refusal.slots) self token (plain.clear (contents p xs)).answer }
+    ) -> Result<usize, Returned<(IntoIter, CloseToken)>>
+        ensures result { let p = self.ring.places in let xs = slots.now in result ≡ answer_or_return (at p xs refusal.slots) (self, token) (plain.clear (contents p xs)).answer }
         ensures bin { let p = self.ring.places in let xs = slots.now in let s = B.state bin.old in B.state bin.new ≡ unless (at p xs refusal.slots) s (fold B.rule s (plain.clear (contents p xs)).binned) }
     {
         let IntoIter { ring } = self;
         match ring.close(token, slots, bin) {
             Ok(binned) => Ok(binned),
             Err(refused) => {
-                let Unclosed { fault, ring, token } = refused;
-                let drain = IntoIter { ring };
-                Err(Unfinished {
+                let Returned { fault, given } = refused;
+                let (ring, token) = given;
+                Err(Returned {
                     fault,
-                    drain,
-                    token,
+                    given: (IntoIter { ring }, token),
                 })
             }
         }

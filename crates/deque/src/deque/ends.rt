@@ -84,7 +84,7 @@ impl Deque {
         ensures list { let p = self.old.places in let xs = slots.old in contents self.new.places slots.new ≡ unless (at p xs refusal.push) (contents p xs) (plain.push_back item (contents p xs)).list }
     {
         if let Err(fault) = self.room(slots) {
-            return Err(Returned { fault, item });
+            return Err(Returned { fault, given: item });
         }
         let at = self.slot(self.places.len);
         slots[at] = item;
@@ -99,7 +99,7 @@ impl Deque {
         ensures list { let p = self.old.places in let xs = slots.old in contents self.new.places slots.new ≡ unless (at p xs refusal.push) (contents p xs) (plain.push_front item (contents p xs)).list }
     {
         if let Err(fault) = self.room(slots) {
-            return Err(Returned { fault, item });
+            return Err(Returned { fault, given: item });
         }
         let at = self.slot_before();
         slots[at] = item;
