@@ -10,8 +10,8 @@ pub fn send_all<T: Copy, B: Bin<T>>(items: &[T], bin: &mut B) -> usize
     ensures count { B.count (B.state bin.new) ≡ (B.count (B.state bin.old) + length items.now) % 2 ^ 64 }
     ensures from_fresh { B.fresh (B.state bin.old) → B.count (B.state bin.new) ≡ length items.now % 2 ^ 64 }
 {
-    for x in items {
-        bin.take(*x);
+    for &item in items {
+        bin.take(item);
     }
     items.len()
 }

@@ -4,6 +4,7 @@
 ghost use Rattle.std.specs.Prelude.{◌≡◌, Some};
 ghost use Rattle.fault.specs.Faults as faults;
 
+use std::error::Error;
 use std::fmt;
 
 // The part of the product that refuses.
@@ -80,13 +81,13 @@ impl fmt::Display for Layer {
     ghost output = { λ x. Some (faults.name x) };
 
     fn fmt<W: fmt::Write>(&self, f: &mut fmt::Formatter<W>) -> fmt::Result {
-        match self {
-            Layer::Letters => f.write_str("letters"),
-            Layer::Sheet => f.write_str("sheet"),
-            Layer::Ring => f.write_str("ring"),
-            Layer::Grades => f.write_str("grades"),
-            Layer::Costing => f.write_str("costing"),
-        }
+        f.write_str(match self {
+            Layer::Letters => "letters",
+            Layer::Sheet => "sheet",
+            Layer::Ring => "ring",
+            Layer::Grades => "grades",
+            Layer::Costing => "costing",
+        })
     }
 }
 
@@ -100,3 +101,5 @@ impl fmt::Display for Fault {
         write!(f, "refused {number} at {place} by {layer}")
     }
 }
+
+impl Error for Fault {}

@@ -3,4 +3,3 @@ pub mod Modulo
 pub mod Pastes
 pub mod Prefixes
 pub mod Turns
-pub mod Twofold

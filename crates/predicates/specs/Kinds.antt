@@ -1,5 +1,5 @@
 -- The kinds of predicates, by their rules.
-use Rattle.std.specs.Prelude.{ℕ, ◌+◌, ◌%◌, Bool, false, List, [], ◌∷◌, drop, nat_le}
+use Rattle.std.specs.Prelude.{ℕ, ◌+◌, ◌%◌, Bool, false, List, [], ◌∷◌, nat_le}
 use Rattle.predicates.specs.declared.mask.Mask.{Mask}
 use Rattle.predicates.specs.Showing.{Shown}
 
@@ -17,4 +17,4 @@ mask [] x = record { answer = false; item = x; state = [] }
 mask (b ∷ bs) x = record { answer = b; item = x; state = bs }
 
 abbrev pub flags_left : Mask → List Bool
-flags_left m = drop m.used m.flags.now
+flags_left m = m.flags.now

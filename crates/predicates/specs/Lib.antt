@@ -1,2 +1,3 @@
 pub mod Showing
 pub mod Kinds
+pub mod Choice

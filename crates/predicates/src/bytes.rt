@@ -5,7 +5,7 @@ ghost use Rattle.predicates.specs.Kinds.{at_least, add_byte};
 use crate::predicate::Predicate;
 
 // Yes for a byte of at least `floor`.
-#[derive(Clone, Copy)]
+#[derive(Clone, Copy, Debug, PartialEq, Eq)]
 pub struct AtLeast {
     pub floor: u8,
 }
@@ -23,7 +23,7 @@ impl Predicate<u8> for AtLeast {
 }
 
 // Adds `by` modulo 256, with yes where nothing carried.
-#[derive(Clone, Copy)]
+#[derive(Clone, Copy, Debug, PartialEq, Eq)]
 pub struct AddByte {
     pub by: u8,
 }
@@ -36,8 +36,8 @@ impl Predicate<u8> for AddByte {
     ghost rule = { add_byte };
 
     fn show(&mut self, item: &mut u8) -> bool {
-        let sum = u16::from(*item) + u16::from(self.by);
-        *item = (sum % 256) as u8;
-        sum <= 255
+        let (sum, carried) = item.overflowing_add(self.by);
+        *item = sum;
+        !carried
     }
 }

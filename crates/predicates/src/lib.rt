@@ -2,6 +2,7 @@
 #![tactic(auto)]
 
 pub mod bytes;
+mod choice;
 pub mod mask;
 pub mod predicate;
 

@@ -4,18 +4,17 @@ ghost use Rattle.predicates.specs.Kinds.{mask, flags_left};
 
 use crate::predicate::Predicate;
 
-// One flag is used at each showing; beyond the last it answers no.
+// The flags that are left: one is used at each showing, and beyond the last it answers no.
 #[derive(Drop)]
 pub struct Mask<'a> {
     flags: &'a [bool],
-    used: usize,
 }
 
 impl Mask<'_> {
     pub fn new(flags: &[bool]) -> Mask<'_>
         ensures { flags_left result ≡ flags.now }
     {
-        Mask { flags, used: 0 }
+        Mask { flags }
     }
 }
 
@@ -27,11 +26,10 @@ impl<T: Copy> Predicate<T> for Mask<'_> {
     ghost rule = { mask };
 
     fn show(&mut self, _item: &mut T) -> bool {
-        if self.used >= self.flags.len() {
+        let Some((flag, left)) = self.flags.split_first() else {
             return false;
-        }
-        let flag = self.flags[self.used];
-        self.used += 1;
-        flag
+        };
+        self.flags = left;
+        *flag
     }
 }

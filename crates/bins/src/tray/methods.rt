@@ -68,11 +68,7 @@ impl<T: Copy> Bin<T> for Tray<T> {
     }
 
     fn read(&self, at: usize) -> Option<T> {
-        if at < self.kept.len() {
-            Some(self.kept[at])
-        } else {
-            None
-        }
+        self.kept.get(at).copied()
     }
 
     fn count(&self) -> u64 {
