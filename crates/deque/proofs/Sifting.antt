@@ -1,7 +1,7 @@
 -- The loop that shows a ring's items in order and gathers those that got yes at its front.
 use Rattle.std.proofs.Common.{◌≡◌, ℕ, ◌+◌, ◌<◌, ◌≤◌, true, false, List, [], ◌∷◌, ◌++◌, length, get_or, take, drop, set, sym, refl, ap, ◌∙◌, append_assoc, append-nil, arith, length-append, length-drop, length-take}
 use lib.Seq.{set_at, get_or_at}
-use Rattle.std.proofs.lemmas.List.{take_more, drop_more, length_push, take_all, drop_all}
+use Rattle.std.proofs.lemmas.List.{nil_from_length, take_more, drop_more, length_push, take_all, drop_all}
 use Rattle.predicates.specs.Showing.{Shown, showings, after}
 use Rattle.places.specs.declared.Places.{Places}
 use Rattle.deque.specs.Sound.{Sound}
@@ -23,8 +23,8 @@ module _ {S T : Type 0} (p : Places) (rule : S → T → Shown S T) (slots₀ : 
     pub list : slots ≡ lay p slots₀ (kept (shown cur) ++ (rest (shown cur) ++ drop cur (contents p slots₀)))
     pub state : s ≡ after rule s₀ (take cur (contents p slots₀))
 
-  pub sifting_at : (slots slots' : List T) (s s' : S) (idx cur cur' : ℕ) → slots' ≡ slots → s' ≡ s → cur' ≡ cur → Sifting slots s idx cur → Sifting slots' s' idx cur'
-  sifting_at slots slots' s s' idx cur cur' p q r h = rw (p, q, r) h
+  pub sifting_at : (slots slots' : List T) (s : S) (idx idx' cur : ℕ) → slots' ≡ slots → idx' ≡ idx → Sifting slots s idx cur → Sifting slots' s idx' cur
+  sifting_at slots slots' s idx idx' cur p q h = rw (p, q) h
 
 module _ {S T : Type 0} (p : Places) (rule : S → T → Shown S T) (slots₀ : List T) (s₀ : S) (ok : Sound p) (room : p.capacity ≤ length slots₀) where
   n : length (contents p slots₀) ≡ p.len
@@ -128,22 +128,21 @@ module _ {S T : Type 0} (p : Places) (rule : S → T → Shown S T) (slots₀ : 
       yes_number yes_answer = sym (ap length (ap kept next ∙ kept_yes ws w yes_answer) ∙ length_push (kept ws) w.item ∙ ap (λ k. k + 1) (sym h.number))
 
       -- as long as every answer was yes, nothing changes places
-      pub sifting_first : w.answer ≡ true → rest ws ≡ [] → Sifting p rule slots₀ s₀ (set slots at y) t (idx + 1) (cur + 1) × (rest (shown p rule slots₀ s₀ (cur + 1)) ≡ [])
-      sifting_first yes_answer none = (
-        record {
-          within = omega arith;
-          number = yes_number yes_answer;
-          list =
-              write y
-              ∙ ap (lay p slots₀) (
-              ap (λ r. kept ws ++ (r ++ y ∷ drop (cur + 1) xs)) none
-              ∙ sym (append_assoc (kept ws) (y ∷ []) (drop (cur + 1) xs))
-              ∙ ap (λ r. (kept ws ++ y ∷ []) ++ (first_to_end r ++ drop (cur + 1) xs)) (sym none)
-              ∙ yes_list yes_answer);
-          state = moved ∙ next_state;
-        },
-        ap rest next ∙ rest_yes ws w yes_answer ∙ ap first_to_end none,
-      )
+      pub sifting_first : w.answer ≡ true → cur ≤ idx → Sifting p rule slots₀ s₀ (set slots at y) t (idx + 1) (cur + 1)
+      sifting_first yes_answer all =
+          let none : rest ws ≡ [] = nil_from_length (rest ws) (omega (arith, size cur h.within, h.number)) in
+          record {
+            within = omega arith;
+            number = yes_number yes_answer;
+            list =
+                write y
+                ∙ ap (lay p slots₀) (
+                ap (λ r. kept ws ++ (r ++ y ∷ drop (cur + 1) xs)) none
+                ∙ sym (append_assoc (kept ws) (y ∷ []) (drop (cur + 1) xs))
+                ∙ ap (λ r. (kept ws ++ y ∷ []) ++ (first_to_end r ++ drop (cur + 1) xs)) (sym none)
+                ∙ yes_list yes_answer);
+            state = moved ∙ next_state;
+          }
 
       -- a yes changes places with the first that got no
       pub sifting_swap : w.answer ≡ true → (a : ℕ) → a ≡ slot p idx → (slots' : List T) → let st = set slots at y in

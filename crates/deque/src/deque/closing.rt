@@ -1,5 +1,5 @@
 // Letting items go into a bin, and closing the ring.
-ghost use Rattle.std.specs.Prelude.{◌≡◌, ℕ, ◌≤◌, length, drop, fold};
+ghost use Rattle.std.specs.Prelude.{◌≡◌, ◌++◌, drop, fold};
 ghost use Rattle.fault.specs.Refusing.{unless, answer, answer_or_return};
 ghost use Rattle.deque.specs.Ring.{contents, at};
 ghost use Rattle.deque.specs.Refusals as refusal;
@@ -7,21 +7,20 @@ ghost use Rattle.deque.specs.Plain as plain;
 ghost use Rattle.deque.specs.Moves as moves;
 
 use crate::deque::{CloseToken, Deque};
-use bins::Bin;
+use bins::{Bin, send_all};
 use fault::{Fault, Returned};
 
-impl Deque {
-    // Bins the items from the index `from` on, in list order.
-    fn bin_from<T: Copy, B: Bin<T>>(&self, slots: &[T], from: usize, bin: &mut B)
-        requires { self.now.places.capacity ≤ length slots.now }
-        ensures { B.state bin.new ≡ fold B.rule (B.state bin.old) (drop from (contents self.now.places slots.now)) }
-    {
-        for i in from..self.places.len {
-            let at = self.slot(i);
-            bin.take(slots[at]);
-        }
-    }
+// Bins the items of two slices, one after the other, but for the first `kept` of them.
+fn bin_from<T: Copy, B: Bin<T>>(first: &[T], second: &[T], kept: usize, bin: &mut B)
+    ensures { B.state bin.new ≡ fold B.rule (B.state bin.old) (drop kept (first.now ++ second.now)) }
+{
+    let low = kept.min(first.len());
+    let high = (kept - low).min(second.len());
+    send_all(&first[low..], bin);
+    send_all(&second[high..], bin);
+}
 
+impl Deque {
     // Keeps the first `len` items and bins the others, in list order; answers how many.
     pub fn truncate<T: Copy, B: Bin<T>>(
         &mut self,
@@ -34,11 +33,11 @@ impl Deque {
         ensures list { let p = self.old.places in let xs = slots.now in contents self.new.places xs ≡ unless (at p xs refusal.slots) (contents p xs) (plain.truncate len (contents p xs)).list }
         ensures bin { let p = self.old.places in let xs = slots.now in let s = B.state bin.old in B.state bin.new ≡ unless (at p xs refusal.slots) s (fold B.rule s (plain.truncate len (contents p xs)).binned) }
     {
-        self.lent(slots)?;
+        let (first, second) = self.as_slices(slots)?;
         if len >= self.places.len {
             return Ok(0);
         }
-        self.bin_from(slots, len, bin);
+        bin_from(first, second, len, bin);
         let binned = self.places.len - len;
         self.places.len = len;
         Ok(binned)
@@ -51,8 +50,8 @@ impl Deque {
         ensures list { let p = self.old.places in let xs = slots.now in contents self.new.places xs ≡ unless (at p xs refusal.slots) (contents p xs) (plain.clear (contents p xs)).list }
         ensures bin { let p = self.old.places in let xs = slots.now in let s = B.state bin.old in B.state bin.new ≡ unless (at p xs refusal.slots) s (fold B.rule s (plain.clear (contents p xs)).binned) }
     {
-        self.lent(slots)?;
-        self.bin_from(slots, 0, bin);
+        let (first, second) = self.as_slices(slots)?;
+        bin_from(first, second, 0, bin);
         let binned = self.places.len;
         self.places.front = 0;
         self.places.len = 0;
@@ -69,15 +68,17 @@ impl Deque {
         ensures result { let p = self.places in let xs = slots.now in result ≡ answer_or_return (at p xs refusal.slots) (self, token) (plain.clear (contents p xs)).answer }
         ensures bin { let p = self.places in let xs = slots.now in let s = B.state bin.old in B.state bin.new ≡ unless (at p xs refusal.slots) s (fold B.rule s (plain.clear (contents p xs)).binned) }
     {
-        if let Err(fault) = self.lent(slots) {
-            return Err(Returned {
+        match self.as_slices(slots) {
+            Ok((first, second)) => {
+                bin_from(first, second, 0, bin);
+                let Deque { places } = self;
+                let CloseToken { sealed: () } = token;
+                Ok(places.len)
+            }
+            Err(fault) => Err(Returned {
                 fault,
                 given: (self, token),
-            });
+            }),
         }
-        self.bin_from(slots, 0, bin);
-        let Deque { places } = self;
-        let CloseToken { sealed: () } = token;
-        Ok(places.len)
     }
 }

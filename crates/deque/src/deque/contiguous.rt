@@ -10,6 +10,7 @@ ghost use Rattle.deque.specs.Writes as writes;
 use crate::deque::Deque;
 use crate::rotation::rotate_left;
 use fault::Fault;
+use places::Places;
 
 // Copies the slots from `from` up to `end` over those that begin at `to`. What lies there already is not written.
 fn move_slots<T: Copy>(slots: &mut [T], from: usize, end: usize, to: usize)
@@ -31,9 +32,11 @@ impl Deque {
         ensures front { result ≡ new_front self.now.places }
         ensures slots { slots.new ≡ writes.make_contiguous self.now.places slots.old }
     {
-        let capacity = self.places.capacity;
-        let front = self.places.front;
-        let len = self.places.len;
+        let Places {
+            capacity,
+            front,
+            len,
+        } = self.places;
         let front_len = capacity - front;
         let back_len = len - front_len;
         let free = capacity - len;

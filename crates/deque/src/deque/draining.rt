@@ -74,14 +74,15 @@ impl IntoIter {
         let IntoIter { ring } = self;
         match ring.close(token, slots, bin) {
             Ok(binned) => Ok(binned),
-            Err(refused) => {
-                let Returned { fault, given } = refused;
-                let (ring, token) = given;
-                Err(Returned {
+            Err(
+                Returned {
                     fault,
-                    given: (IntoIter { ring }, token),
-                })
-            }
+                    given: (ring, token),
+                },
+            ) => Err(Returned {
+                fault,
+                given: (IntoIter { ring }, token),
+            }),
         }
     }
 }

@@ -83,9 +83,8 @@ impl Deque {
         ensures slots { let p = self.old.places in let xs = slots.old in slots.new ≡ unless (at p xs refusal.push) xs (writes.push_back item p xs) }
         ensures list { let p = self.old.places in let xs = slots.old in contents self.new.places slots.new ≡ unless (at p xs refusal.push) (contents p xs) (plain.push_back item (contents p xs)).list }
     {
-        if let Err(fault) = self.room(slots) {
-            return Err(Returned { fault, given: item });
-        }
+        self.room(slots)
+            .map_err(|fault| Returned { fault, given: item })?;
         let at = self.slot(self.places.len);
         slots[at] = item;
         self.places.len += 1;
@@ -98,9 +97,8 @@ impl Deque {
         ensures slots { let p = self.old.places in let xs = slots.old in slots.new ≡ unless (at p xs refusal.push) xs (writes.push_front item p xs) }
         ensures list { let p = self.old.places in let xs = slots.old in contents self.new.places slots.new ≡ unless (at p xs refusal.push) (contents p xs) (plain.push_front item (contents p xs)).list }
     {
-        if let Err(fault) = self.room(slots) {
-            return Err(Returned { fault, given: item });
-        }
+        self.room(slots)
+            .map_err(|fault| Returned { fault, given: item })?;
         let at = self.slot_before();
         slots[at] = item;
         self.places.front = at;

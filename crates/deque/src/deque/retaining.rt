@@ -23,23 +23,13 @@ impl Deque {
         ensures predicate { let s = P.state predicate.old in P.state predicate.new ≡ after P.rule s (contents self.now.places slots.old) }
     {
         let mut idx = 0;
-        let mut cur = 0;
-        // as long as every answer is yes, the items stay where they are
-        'leading: while cur < self.places.len {
+        for cur in 0..self.places.len {
             let at = self.slot(cur);
-            let yes = predicate.show(&mut slots[at]);
-            cur += 1;
-            if !yes {
-                break;
-            }
-            idx += 1;
-        }
-        'others: while cur < self.places.len {
-            let at = self.slot(cur);
-            let stays = predicate.show(&mut slots[at]);
-            cur += 1;
-            if stays {
-                slots.swap(self.slot(idx), at);
+            if predicate.show(&mut slots[at]) {
+                // up to the first no, the items stay where they are
+                if idx < cur {
+                    slots.swap(self.slot(idx), at);
+                }
                 idx += 1;
             }
         }

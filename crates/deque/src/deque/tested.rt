@@ -1,8 +1,8 @@
 // Showing an item to a predicate: changing it in place, and popping it if the answer is yes.
-ghost use Rattle.std.specs.Prelude.{◌≡◌, ℕ, ◌-◌, ◌<◌, ◌≤◌, length};
+ghost use Rattle.std.specs.Prelude.{◌≡◌, ◌-◌};
 ghost use Rattle.fault.specs.Refusing.{unless, answer};
 ghost use Rattle.predicates.specs.Showing.{answered, yes_to, left, moved, stored};
-ghost use Rattle.deque.specs.Ring.{contents, slot, at};
+ghost use Rattle.deque.specs.Ring.{contents, at};
 ghost use Rattle.deque.specs.Refusals as refusal;
 ghost use Rattle.deque.specs.Plain as plain;
 ghost use Rattle.deque.specs.Moves as moves;
@@ -13,24 +13,6 @@ use fault::Fault;
 use predicates::Predicate;
 
 impl Deque {
-    // Shows item i, and stores it as left.
-    fn show_at<T: Copy, P: Predicate<T>>(
-        &self,
-        slots: &mut [T],
-        i: usize,
-        predicate: &mut P,
-    ) -> bool
-        requires within { i < self.now.places.len }
-        requires enough { self.now.places.capacity ≤ length slots.old }
-        ensures answer { let p = self.now.places in let xs = slots.old in let s = P.state predicate.old in result ≡ yes_to P.rule s (plain.get i (contents p xs)) }
-        ensures slots { let p = self.now.places in let xs = slots.old in let s = P.state predicate.old in slots.new ≡ writes.store (left P.rule s (plain.get i (contents p xs))) i p xs }
-        ensures list { let p = self.now.places in let xs = slots.old in let s = P.state predicate.old in contents p slots.new ≡ stored (left P.rule s (plain.get i (contents p xs))) i (contents p xs) }
-        ensures predicate { let p = self.now.places in let xs = slots.old in let s = P.state predicate.old in P.state predicate.new ≡ moved P.rule s (plain.get i (contents p xs)) }
-    {
-        let at = self.slot(i);
-        predicate.show(&mut slots[at])
-    }
-
     // Shows item i, stores it as left, and answers what the predicate said; none where there is no such item.
     pub fn change<T: Copy, P: Predicate<T>>(
         &self,
@@ -47,7 +29,8 @@ impl Deque {
         if i >= self.places.len {
             return Ok(None);
         }
-        Ok(Some(self.show_at(slots, i, predicate)))
+        let at = self.slot(i);
+        Ok(Some(predicate.show(&mut slots[at])))
     }
 
     // Shows the front item and stores it as left; a yes pops it.
@@ -62,15 +45,12 @@ impl Deque {
         ensures list { let p = self.old.places in let xs = slots.old in let s = P.state predicate.old in contents self.new.places slots.new ≡ unless (at p xs refusal.slots) (contents p xs) (plain.pop_front_if P.rule s (contents p xs)).list }
         ensures predicate { let p = self.old.places in let xs = slots.old in let s = P.state predicate.old in P.state predicate.new ≡ unless (at p xs refusal.slots) s (moved P.rule s (plain.front (contents p xs))) }
     {
-        self.lent(slots)?;
-        if self.places.len == 0 {
-            return Ok(None);
+        let yes = self.change(slots, 0, predicate)?.unwrap_or(false);
+        if yes {
+            self.pop_front(slots)
+        } else {
+            Ok(None)
         }
-        let yes = self.show_at(slots, 0, predicate);
-        if !yes {
-            return Ok(None);
-        }
-        self.pop_front(slots)
     }
 
     // Shows the back item and stores it as left; a yes pops it.
@@ -85,15 +65,12 @@ impl Deque {
         ensures list { let p = self.old.places in let xs = slots.old in let s = P.state predicate.old in contents self.new.places slots.new ≡ unless (at p xs refusal.slots) (contents p xs) (plain.pop_back_if P.rule s (contents p xs)).list }
         ensures predicate { let p = self.old.places in let xs = slots.old in let s = P.state predicate.old in P.state predicate.new ≡ unless (at p xs refusal.slots) s (moved P.rule s (plain.back (contents p xs))) }
     {
-        self.lent(slots)?;
-        if self.places.len == 0 {
-            return Ok(None);
+        let last = self.places.len.saturating_sub(1);
+        let yes = self.change(slots, last, predicate)?.unwrap_or(false);
+        if yes {
+            self.pop_back(slots)
+        } else {
+            Ok(None)
         }
-        let last = self.places.len - 1;
-        let yes = self.show_at(slots, last, predicate);
-        if !yes {
-            return Ok(None);
-        }
-        self.pop_back(slots)
     }
 }

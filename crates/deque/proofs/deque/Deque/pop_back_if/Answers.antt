@@ -1,13 +1,10 @@
 use Rattle.std.proofs.Common.{rules}
-use Rattle.predicates.proofs.Shows.{length_stored}
-use Rattle.deque.proofs.Contents.{length_contents, contents_none}
+use Rattle.predicates.proofs.Shows.{length_stored, yes_answered}
+use Rattle.deque.proofs.Contents.{length_contents}
 use Rattle.deque.proofs.deque.Deque.pop_back_if.Goals as goal
 
-pub returns-then-self-eq0 : goal.returns-then-self-eq0
-returns-then-self-eq0 g c = search (rules, contents_none)
+pub returns-then-yes : goal.returns-then-yes
+returns-then-yes g c = search (rules, length_contents, length_stored, yes_answered)
 
-pub returns-then-not-yes : goal.returns-then-not-yes
-returns-then-not-yes g c = search (rules, length_contents, length_stored)
-
-pub returns : goal.returns
-returns g c = search (rules, length_contents, length_stored)
+pub returns-else-yes : goal.returns-else-yes
+returns-else-yes g c = search (rules, length_contents, length_stored, yes_answered)
