@@ -1,7 +1,7 @@
 -- The list of a ring, by the slots of its items.
-use Rattle.std.proofs.Common.{◌≡◌, ℕ, zero, suc, ◌+◌, ◌-◌, ◌%◌, ◌<◌, ◌≤◌, ◌≢◌, List, [], ◌∷◌, ◌++◌, length, get_or, take, drop, set, Some, None, fold, sym, ap, ◌∙◌, inl, inr, mod-lt, arith, length-append, length-drop, length-set, length-take}
+use Rattle.std.proofs.Common.{◌≡◌, ℕ, zero, suc, ◌+◌, ◌-◌, ◌%◌, ◌<◌, ◌≤◌, ◌≢◌, List, [], ◌∷◌, ◌++◌, length, get_or, take, drop, set, Some, None, sym, ap, ◌∙◌, inl, inr, mod-lt, arith, length-append, length-drop, length-set, length-take}
 use native.Mathlib.Nat.{mod-add-mod, add-mod_right}
-use Rattle.std.proofs.lemmas.List.{same_lists, get_or_append_left, get_or-append_right, get_or-take, get_or-drop, get_or-set_same, get_or-set_other, get_or_push, length_push, drop_more, drop_all, take_all}
+use Rattle.std.proofs.lemmas.List.{same_lists, get_or_append_left, get_or-append_right, get_or-take, get_or-drop, get_or-set_same, get_or-set_other, get_or_push, length_push, drop_all, take_all}
 use Rattle.std.proofs.lemmas.Option.{slice_get_read, slice_get-get_or, slice_get_past}
 use Rattle.std.proofs.lemmas.Bool.{cases_lt, cases_eq}
 use Rattle.std.specs.List.{slice_get}
@@ -36,15 +36,6 @@ module _ (p : Places) (ok : Sound p) where
 
   pub before_slot : 0 < p.capacity → before p ≡ slot p (p.capacity - 1)
   before_slot h = let e : p.front + p.capacity - 1 ≡ p.front + (p.capacity - 1) = omega arith in ap (λ k. k % p.capacity) e
-
-  -- the slot before the front, without a remainder
-  pub before_at_zero : p.front ≡ 0 → 0 < p.capacity → p.capacity - 1 ≡ before p
-  before_at_zero z h = sym (mod_low p.front (p.capacity - 1) p.capacity (omega arith) ∙ omega arith) ∙ sym (before_slot h)
-
-  pub before_above_zero : (p.front ≡ 0 → ⊥) → 0 < p.capacity → p.front - 1 ≡ before p
-  before_above_zero ne h =
-      let above : 0 < p.front = elim (cases_lt 0 p.front) [ inl a ↦ a | inr a ↦ absurd (ne (omega arith)) ] in
-      sym (mod_high p.front (p.capacity - 1) p.capacity (omega arith) (omega arith) (omega arith) ∙ omega arith) ∙ sym (before_slot h)
 
   -- the slot of item i + 1, seen from the slot before the front, is that of item i
   pub slot_before : (i : ℕ) → i < p.capacity → (before p + (i + 1)) % p.capacity ≡ slot p i
@@ -206,22 +197,8 @@ module _ {T : Type 0} (p : Places) (xs : List T) (ok : Sound p) (enough : p.capa
   pub contents_pop_back : contents (placed p p.front (p.len - 1)) xs ≡ take (length (contents p xs) - 1) (contents p xs)
   contents_pop_back = contents_truncate (p.len - 1) (omega arith) ∙ ap (λ k. take (k - 1) (contents p xs)) (sym (length_contents p xs ok enough))
 
-  -- what is left of the list from item i on
-  pub drop_contents_more : (i : ℕ) (x : T) → i < p.len → x ≡ get_or xs (slot p i) x → drop i (contents p xs) ≡ x ∷ drop (i + 1) (contents p xs)
-  drop_contents_more i x h e =
-      let b : i < length (contents p xs) = omega (arith, length_contents p xs ok enough) in
-      drop_more (contents p xs) i x b ∙ ap (λ y. y ∷ drop (i + 1) (contents p xs)) (contents_at p xs ok enough i x h ∙ sym e)
-
   pub drop_contents_all : (i : ℕ) → p.len ≤ i → drop i (contents p xs) ≡ []
   drop_contents_all i h = drop_all i (contents p xs) (omega (arith, length_contents p xs ok enough))
 
   pub take_contents_all : (i : ℕ) → p.len ≤ i → take i (contents p xs) ≡ contents p xs
   take_contents_all i h = take_all i (contents p xs) (omega (arith, length_contents p xs ok enough))
-
-  -- a loop over the items from i on: `s` is its state, and `all` the state that all of them give
-  pub folded_contents_more : {S : Type 0} (rule : S → T → S) (s t all : S) (i : ℕ) (x : T) → i < p.len → x ≡ get_or xs (slot p i) x → t ≡ rule s x → fold rule s (drop i (contents p xs)) ≡ all → fold rule t (drop (i + 1) (contents p xs)) ≡ all
-  folded_contents_more rule s t all i x h e step so_far =
-      ap (λ u. fold rule u (drop (i + 1) (contents p xs))) step ∙ sym (ap (fold rule s) (drop_contents_more i x h e)) ∙ so_far
-
-  pub folded_contents_all : {S : Type 0} (rule : S → T → S) (s all : S) (i : ℕ) → p.len ≤ i → fold rule s (drop i (contents p xs)) ≡ all → s ≡ all
-  folded_contents_all rule s all i h so_far = sym (ap (fold rule s) (drop_contents_all i h)) ∙ so_far

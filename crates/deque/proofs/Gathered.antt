@@ -1,5 +1,5 @@
 -- The items of a ring in one part of its slots.
-use Rattle.std.proofs.Common.{◌≡◌, ℕ, ◌+◌, ◌-◌, ◌<◌, ◌≤◌, List, ◌++◌, length, take, drop, ap, append_assoc, append-nil, arith, length-append, length-drop, length-take}
+use Rattle.std.proofs.Common.{◌≡◌, ℕ, ◌+◌, ◌-◌, ◌<◌, ◌≤◌, List, ◌++◌, length, take, drop, append_assoc, append-nil, arith, length-append, length-drop, length-take}
 use lib.Seq.{paste}
 use Rattle.std.proofs.lemmas.List.{take_at, drop_at, take_all, drop-drop, take-append-drop, length-take-le}
 use Rattle.std.proofs.lemmas.Bool.Decides.{nat_tests}
@@ -22,9 +22,6 @@ module _ (p : Places) (ok : Sound p) where
   -- items that lie in one part stay there
   pub front_stays : p.front ≤ p.capacity - p.len → new_front p ≡ p.front
   front_stays h = grind (arith, nat_tests)
-
-  pub places_stay : p.front ≤ p.capacity - p.len → moves.make_contiguous p ≡ p
-  places_stay h = ap (λ f. placed p f p.len) (front_stays h)
 
 module _ {T : Type 0} (p : Places) (xs : List T) (ok : Sound p) (enough : p.capacity ≤ length xs) where
   -- the list of a ring that goes round the end of its slots, and of one that does not

@@ -1,19 +1,11 @@
 -- The first n elements of a list that grows at its end, and the others of two lists.
-use Rattle.std.proofs.Common.{◌≡◌, ℕ, zero, suc, ◌+◌, ◌-◌, ◌<◌, min, List, [], ◌∷◌, ◌++◌, length, take, drop, fold, sym, refl, ap, ◌∙◌, inl, inr, arith, length-append, take_all, take_at}
+use Rattle.std.proofs.Common.{◌≡◌, ℕ, zero, suc, ◌+◌, ◌-◌, min, List, [], ◌∷◌, ◌++◌, length, take, drop, fold, sym, refl, ap, ◌∙◌, inl, inr, arith}
 use Rattle.std.proofs.Math.Seq.{drop-append-add}
 use Rattle.std.proofs.lemmas.List.{drop_all, drop_min, drop-append-le, take_rest}
 use Rattle.std.proofs.lemmas.List.Sums.{fold-append}
 use Rattle.std.proofs.lemmas.Bool.{cases_lt}
 
 module _ {T : Type 0} where
-  -- one element more, where there is room for it
-  pub take_room : (n : ℕ) (xs : List T) (x : T) → length xs < n → take n (xs ++ x ∷ []) ≡ xs ++ x ∷ []
-  take_room n xs x h = take_all n (xs ++ x ∷ []) (omega (arith, length-append xs (x ∷ [])))
-
-  -- and where there is none
-  pub take_full : (n : ℕ) (xs : List T) (x : T) → length xs ≡ n → take n (xs ++ x ∷ []) ≡ xs
-  take_full n xs x h = take_at xs (x ∷ []) n h
-
   pub take_front : (n : ℕ) (ys zs : List T) → take n (take n ys ++ zs) ≡ take n (ys ++ zs)
   take_front zero ys zs = refl
   take_front (suc n) [] zs = refl

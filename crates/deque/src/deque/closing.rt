@@ -1,4 +1,6 @@
 // Letting items go into a bin, and closing the ring.
+#![tactic(auto, using(crate::proofs::Contents::length_contents, crate::proofs::Contents::contents_none, crate::proofs::Contents::contents_truncate, crate::proofs::Contents::drop_contents_all, crate::proofs::Contents::take_contents_all))]
+
 ghost use Rattle.std.specs.Prelude.{◌≡◌, ◌++◌, drop, fold};
 ghost use Rattle.fault.specs.Refusing.{unless, answer, answer_or_return};
 ghost use Rattle.deque.specs.Ring.{contents, at};
@@ -11,6 +13,7 @@ use bins::{Bin, send_all};
 use fault::{Fault, Returned};
 
 // Bins the items of two slices, one after the other, but for the first `kept` of them.
+#[tactic(auto, using(lists::proofs::Prefixes::fold_both))]
 fn bin_from<T: Copy, B: Bin<T>>(first: &[T], second: &[T], kept: usize, bin: &mut B)
     ensures { B.state bin.new ≡ fold B.rule (B.state bin.old) (drop kept (first.now ++ second.now)) }
 {

@@ -1,4 +1,6 @@
 // Making a ring contiguous: its items are moved so that they lie in one part of the slots.
+#![tactic(auto, using(crate::proofs::Gathered::slots_stay, crate::proofs::Gathered::contents_gathered))]
+
 ghost use Rattle.std.specs.Prelude.{◌≡◌, ℕ, ◌+◌, ◌-◌, ◌<◌, ◌≤◌, length, drop};
 ghost use Rattle.std.proofs.Math.Seq.{paste};
 ghost use Rattle.fault.specs.Refusing.{unless, answer};
@@ -13,6 +15,7 @@ use fault::Fault;
 use places::Places;
 
 // Copies the slots from `from` up to `end` over those that begin at `to`. What lies there already is not written.
+#[tactic(auto, using(lists::proofs::Pastes::paste_self))]
 fn move_slots<T: Copy>(slots: &mut [T], from: usize, end: usize, to: usize)
     requires forward { from ≤ end }
     requires within { end ≤ length slots.old }

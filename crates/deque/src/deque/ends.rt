@@ -1,4 +1,6 @@
 // Making a ring, and pushing and popping at its ends.
+#![tactic(auto, using(crate::proofs::Contents::contents_none, crate::proofs::Contents::nth_contents_front, crate::proofs::Contents::contents_pop_front, crate::proofs::Contents::nth_contents_back, crate::proofs::Contents::contents_pop_back, crate::proofs::Contents::contents_push_back, crate::proofs::Contents::contents_push_front))]
+
 ghost use Rattle.std.specs.Prelude.{◌≡◌, ℕ, ◌+◌, ◌-◌, ◌<◌, ◌≤◌, [], length};
 ghost use Rattle.fault.specs.Refusing.{unless, answer, answer_or_return};
 ghost use Rattle.deque.specs.Ring.{contents, slot, before, at};

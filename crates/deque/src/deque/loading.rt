@@ -1,4 +1,6 @@
 // Loading a ring.
+#![tactic(auto, using(crate::proofs::Edited::contents_load))]
+
 ghost use Rattle.std.specs.Prelude.{◌≡◌, length};
 ghost use Rattle.fault.specs.Refusing.{unless, answer};
 ghost use Rattle.deque.specs.Ring.{contents, at};

@@ -1,4 +1,6 @@
 // Reading a ring.
+#![tactic(auto, using(crate::proofs::Contents::length_contents, crate::proofs::Contents::nth_contents, crate::proofs::Contents::nth_contents_past))]
+
 ghost use Rattle.std.specs.Prelude.{◌≡◌, ◌++◌, length, ◌==◌};
 ghost use Rattle.std.specs.Result.{result_map_both};
 ghost use Rattle.fault.specs.Refusing.{answer};
@@ -73,6 +75,7 @@ impl Deque {
     }
 
     // The list in two parts of the slots: the first from the front slot on, the second from slot 0 on.
+    #[tactic(auto, unfolding(crate::specs::Ring::contents))]
     pub fn as_slices<'a, T>(&self, slots: &'a [T]) -> Result<(&'a [T], &'a [T]), Fault>
         ensures parts { let p = self.now.places in let xs = slots.now in result_map_both (λ s. (s.0.now, s.1.now)) (λ f. f) result ≡ answer (at p xs refusal.slots) (slices p xs) }
         ensures list { let p = self.now.places in let xs = slots.now in result_map_both (λ s. s.0.now ++ s.1.now) (λ f. f) result ≡ answer (at p xs refusal.slots) (contents p xs) }

@@ -1,4 +1,6 @@
 // Exchanging items.
+#![tactic(auto, using(crate::proofs::Contents::length_contents, crate::proofs::Edited::contents_exchanged))]
+
 ghost use Rattle.std.specs.Prelude.{◌≡◌, ℕ, ◌-◌, length};
 ghost use Rattle.fault.specs.Refusing.{unless, answer};
 ghost use Rattle.deque.specs.Ring.{contents, at};

@@ -1,4 +1,6 @@
 // Showing an item to a predicate: changing it in place, and popping it if the answer is yes.
+#![tactic(auto, using(crate::proofs::Contents::length_contents, predicates::proofs::Shows::length_stored, predicates::proofs::Shows::yes_answered))]
+
 ghost use Rattle.std.specs.Prelude.{◌≡◌, ◌-◌};
 ghost use Rattle.fault.specs.Refusing.{unless, answer};
 ghost use Rattle.predicates.specs.Showing.{answered, yes_to, left, moved, stored};
@@ -46,11 +48,7 @@ impl Deque {
         ensures predicate { let p = self.old.places in let xs = slots.old in let s = P.state predicate.old in P.state predicate.new ≡ unless (at p xs refusal.slots) s (moved P.rule s (plain.front (contents p xs))) }
     {
         let yes = self.change(slots, 0, predicate)?.unwrap_or(false);
-        if yes {
-            self.pop_front(slots)
-        } else {
-            Ok(None)
-        }
+        if yes { self.pop_front(slots) } else { Ok(None) }
     }
 
     // Shows the back item and stores it as left; a yes pops it.
@@ -67,10 +65,6 @@ impl Deque {
     {
         let last = self.places.len.saturating_sub(1);
         let yes = self.change(slots, last, predicate)?.unwrap_or(false);
-        if yes {
-            self.pop_back(slots)
-        } else {
-            Ok(None)
-        }
+        if yes { self.pop_back(slots) } else { Ok(None) }
     }
 }

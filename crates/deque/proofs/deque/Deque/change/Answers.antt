@@ -1,4 +1,4 @@
-use Rattle.std.proofs.Common.{◌≡◌, ◌≤◌, length, set, Ok, None, sym, ap, ◌∙◌, rules}
+use Rattle.std.proofs.Common.{◌≡◌, ◌≤◌, length, set, None, sym, ap, ◌∙◌, rules}
 use Rattle.predicates.specs.Showing.{answered, left, moved, stored}
 use Rattle.deque.specs.Ring.{contents, slot, at}
 use Rattle.deque.specs.Refusals as refusal

@@ -1,4 +1,4 @@
-use Rattle.std.proofs.Common.{sym, refl, ◌∙◌, arith}
+use Rattle.std.proofs.Common.{sym, ◌∙◌, arith}
 use Rattle.deque.proofs.Sifting.{sifting_at, sifting_none, sifting_no, sifting_first, sifting_swap, sifted_number, sifted_list, sifted_state}
 use Rattle.deque.proofs.deque.Deque.sift.Goals as goal
 use Rattle.deque.proofs.deque.Deque.sift.Goals.{then-show, then-idx-cur, else-idx-cur, else-show}
@@ -25,19 +25,19 @@ loop-cur-preserved g c =
         | then-idx-cur v ↦ (
           omega arith,
           sifting_at d p.rule slots₀ s₀ _ _ _ _ _ _ (w.slots-is ∙ v.slots-is) w.idx-is
-          (sifting_swap d p.rule slots₀ s₀ ok c.requires _ _ _ _ sofar c.loop-cur-test.true _ c.slot-at.ensures x _ _ item state (said ∙ w.if-show.true)
-          _ v.slot.ensures _ (v.swap.ensures.by_index.3 x)),
+              (sifting_swap d p.rule slots₀ s₀ ok c.requires _ _ _ _ sofar c.loop-cur-test.true _ c.slot-at.ensures x _ _ item state (said ∙ w.if-show.true)
+              _ v.slot.ensures _ (v.swap.ensures.by_index.3 x)),
         )
         | else-idx-cur v ↦ (
           omega arith,
           sifting_at d p.rule slots₀ s₀ _ _ _ _ _ _ (w.slots-is ∙ v.slots-is) w.idx-is
-          (sifting_first d p.rule slots₀ s₀ ok c.requires _ _ _ _ sofar c.loop-cur-test.true _ c.slot-at.ensures x _ _ item state (said ∙ w.if-show.true) v.if-idx-cur.false),
+              (sifting_first d p.rule slots₀ s₀ ok c.requires _ _ _ _ sofar c.loop-cur-test.true _ c.slot-at.ensures x _ _ item state (said ∙ w.if-show.true) v.if-idx-cur.false),
         )
       ]
       | else-show w ↦ (
         omega arith,
         sifting_at d p.rule slots₀ s₀ _ _ _ _ _ _ w.slots-is w.idx-is
-        (sifting_no d p.rule slots₀ s₀ ok c.requires _ _ _ _ sofar c.loop-cur-test.true _ c.slot-at.ensures x _ _ item state (said ∙ w.if-show.false)),
+            (sifting_no d p.rule slots₀ s₀ ok c.requires _ _ _ _ sofar c.loop-cur-test.true _ c.slot-at.ensures x _ _ item state (said ∙ w.if-show.false)),
       )
     ]
 

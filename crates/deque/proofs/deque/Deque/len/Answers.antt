@@ -1,6 +1,0 @@
-use Rattle.std.proofs.Common.{rules}
-use Rattle.deque.proofs.Contents.{length_contents}
-use Rattle.deque.proofs.deque.Deque.len.Goals as goal
-
-pub returns : goal.returns
-returns g c = search (rules, length_contents)

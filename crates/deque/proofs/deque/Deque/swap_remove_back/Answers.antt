@@ -1,9 +1,0 @@
-use Rattle.std.proofs.Common.{rules}
-use Rattle.deque.proofs.Contents.{length_contents}
-use Rattle.deque.proofs.deque.Deque.swap_remove_back.Goals as goal
-
-pub returns-then-i-self : goal.returns-then-i-self
-returns-then-i-self g c = search (rules, length_contents)
-
-pub returns : goal.returns
-returns g c = search (rules, length_contents)
