@@ -1,10 +1,8 @@
-ghost use Rattle.std.specs.Prelude.{◌≡◌, ◌≤◌, length};
+ghost use Rattle.std.specs.Prelude.{◌≤◌, length};
 
 use bins::{Bin, Pair, Tray};
-use deque::{CloseToken, Deque, MAX_CAPACITY};
+use deque::{CloseToken, Deque};
 use fault::{Fault, Returned};
-use places::Places;
-use std::fmt::Debug;
 use std::test::Fail;
 
 // Ends a ring that has all its slots.
@@ -34,14 +32,14 @@ fn no_slots(rt: HostRuntime) -> Result<(), Fail> {
         pushed_back,
         Err(Returned {
             fault: Fault::Full(0),
-            item: 5,
+            given: 5,
         })
     );
     assert_eq!(rt;
         pushed_front,
         Err(Returned {
             fault: Fault::Full(0),
-            item: 6,
+            given: 6,
         })
     );
     assert_eq!(rt; popped_front, Ok(None));
@@ -67,7 +65,7 @@ fn one_slot(rt: HostRuntime) -> Result<(), Fail> {
         again,
         Err(Returned {
             fault: Fault::Full(1),
-            item: 8,
+            given: 8,
         })
     );
     assert_eq!(rt; popped, Ok(Some(7)));
@@ -115,7 +113,7 @@ fn as_many_slots_as_there_may_be(rt: HostRuntime) -> Result<(), Fail> {
         more,
         Err(Returned {
             fault: Fault::Full(1_048_576),
-            item: 6,
+            given: 6,
         })
     );
     assert_eq!(rt; closed, 1_048_576);
@@ -123,90 +121,46 @@ fn as_many_slots_as_there_may_be(rt: HostRuntime) -> Result<(), Fail> {
     Ok(())
 }
 
-// An error where two values differ. A failed assert would end the test here, with its ring still open.
-fn check_eq<T: PartialEq + Debug + Drop>(found: T, wanted: T) -> Result<(), Fail> {
-    if found == wanted {
-        return Ok(());
-    }
-    Err(Fail::new(format_args!("{found:?}, and not {wanted:?}")))
-}
-
-fn check(holds: bool) -> Result<(), Fail> {
-    check_eq(holds, true)
-}
-
 // Each call of a ring of four slots that is lent three of them.
-fn ends(ring: &mut Deque, few: &mut [u8]) -> Result<(), Fail>
-    ensures { ring.new.places.capacity ≡ ring.old.places.capacity }
-{
-    let short = Fault::TooFewSlots(3);
-    let pushed = ring.push_back(few, 5);
-    let popped = ring.pop_front(few);
-    check_eq(
-        pushed,
-        Err(Returned {
-            fault: short,
-            item: 5,
-        }),
-    )?;
-    check_eq(popped, Err(short))
-}
-
-fn loads(ring: &mut Deque, few: &mut [u8], items: &[u8]) -> Result<(), Fail>
-    ensures { ring.new.places.capacity ≡ ring.old.places.capacity }
-{
-    let short = Fault::TooFewSlots(3);
-    check_eq(ring.load(few, items), Err(short))
-}
-
-fn removals(ring: &mut Deque, few: &mut [u8]) -> Result<(), Fail>
-    ensures { ring.new.places.capacity ≡ ring.old.places.capacity }
-{
-    let short = Fault::TooFewSlots(3);
-    check_eq(ring.swap(few, 0, 0), Err(short))?;
-    check_eq(ring.swap_remove_front(few, 0), Err(short))
-}
-
-fn lettings_go(ring: &mut Deque, few: &[u8], bin: &mut Tray<u8>) -> Result<(), Fail>
-    ensures { ring.new.places.capacity ≡ ring.old.places.capacity }
-{
-    let short = Fault::TooFewSlots(3);
-    let truncated = ring.truncate(few, 0, bin);
-    let cleared = ring.clear(few, bin);
-    check_eq(truncated, Err(short))?;
-    check_eq(cleared, Err(short))
-}
-
-fn reads(ring: &Deque, few: &[u8]) -> Result<(), Fail> {
-    let short = Fault::TooFewSlots(3);
-    check_eq(ring.len(few), Err(short))?;
-    check_eq(ring.capacity(few), Err(short))?;
-    check_eq(ring.get(few, 0), Err(short))?;
-    check(ring.as_slices(few).is_err())?;
-    check(ring.iter(few).is_err())?;
-    let places = ring.places();
-    check(places.is_empty() && places.front() == 0)
-}
-
-fn every_call(ring: &mut Deque, few: &mut [u8], bin: &mut Tray<u8>) -> Result<(), Fail>
-    ensures { ring.new.places.capacity ≡ ring.old.places.capacity }
-{
-    ends(ring, few)?;
-    loads(ring, few, &[1, 2])?;
-    removals(ring, few)?;
-    lettings_go(ring, few, bin)?;
-    reads(ring, few)
-}
-
 #[test]
 fn too_few_slots(rt: HostRuntime) -> Result<(), Fail> {
     let mut bin = Tray::new(rt.alloc(), 4)?;
     let slots = [1u8, 2, 3, 4];
     let (mut ring, token) = Deque::new(&slots);
     let mut few = [9u8; 3];
-    let refused = every_call(&mut ring, &mut few, &mut bin);
+    let short = Fault::TooFewSlots(3);
+    let pushed = ring.push_back(&mut few, 5);
+    let popped = ring.pop_front(&few);
+    let loaded = ring.load(&mut few, &[1, 2]);
+    let swapped = ring.swap(&mut few, 0, 0);
+    let removed = ring.swap_remove_front(&mut few, 0);
+    let truncated = ring.truncate(&few, 0, &mut bin);
+    let cleared = ring.clear(&few, &mut bin);
+    let len = ring.len(&few);
+    let capacity = ring.capacity(&few);
+    let item = ring.get(&few, 0);
+    let sliced = ring.as_slices(&few).is_ok();
+    let walked = ring.iter(&few).is_ok();
+    let places = ring.places();
     let closed = close(ring, token, &slots, &mut bin);
-    refused?;
+    assert_eq!(rt;
+        pushed,
+        Err(Returned {
+            fault: short,
+            given: 5,
+        })
+    );
+    assert_eq!(rt; popped, Err(short));
+    assert_eq!(rt; loaded, Err(short));
+    assert_eq!(rt; swapped, Err(short));
+    assert_eq!(rt; removed, Err(short));
+    assert_eq!(rt; truncated, Err(short));
+    assert_eq!(rt; cleared, Err(short));
+    assert_eq!(rt; len, Err(short));
+    assert_eq!(rt; capacity, Err(short));
+    assert_eq!(rt; item, Err(short));
+    assert!(rt; !sliced && !walked);
+    assert!(rt; places.is_empty() && places.front() == 0);
     assert_eq!(rt; few, [9u8; 3]);
     assert_eq!(rt; closed, 0);
     assert_eq!(rt; bin.count(), 0);
@@ -223,10 +177,12 @@ fn closing_again(rt: HostRuntime) -> Result<(), Fail> {
     let few = [0u8; 1];
     let (fault, closed) = match ring.close(token, &few, &mut bin) {
         Ok(_) => (None, 0),
-        Err(refused) => {
-            let deque::Unclosed { fault, ring, token } = refused;
-            (Some(fault), close(ring, token, &slots, &mut bin))
-        }
+        Err(
+            Returned {
+                fault,
+                given: (ring, token),
+            },
+        ) => (Some(fault), close(ring, token, &slots, &mut bin)),
     };
     assert_eq!(rt; pushed, Ok(()));
     assert_eq!(rt; fault, Some(Fault::TooFewSlots(1)));
