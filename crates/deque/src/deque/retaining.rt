@@ -25,7 +25,8 @@ impl Deque {
         let mut idx = 0;
         for cur in 0..self.places.len {
             let at = self.slot(cur);
-            if predicate.show(&mut slots[at]) {
+            let stays = predicate.show(&mut slots[at]);
+            if stays {
                 // up to the first no, the items stay where they are
                 if idx < cur {
                     slots.swap(self.slot(idx), at);
