@@ -1,8 +1,8 @@
 -- The items of a load, one after the other.
 use Rattle.std.proofs.Common.{◌≡◌, ℕ, ◌+◌, ◌<◌, ◌≤◌, List, [], ◌∷◌, ◌++◌, length, get_or, drop, Some, None, Ok, Err, Option, Result, sym, refl, ap, ◌∙◌, append_assoc, append-nil, Bor}
 use Rattle.std.proofs.lemmas.List.{drop_more, drop_all}
-use Rattle.script.specs.declared.command.Mistake.{Mistake}
-use Rattle.script.specs.declared.command.Mistake.TheVariants.{NoNumber}
+use Rattle.script.specs.declared.error.Mistake.{Mistake}
+use Rattle.script.specs.declared.error.Mistake.TheVariants.{NoNumber}
 use Rattle.script.specs.Text.{number}
 use Rattle.script.specs.Commands.{held, max_item, found, items, then}
 

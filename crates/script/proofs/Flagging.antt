@@ -1,7 +1,7 @@
 -- The flags of a mask, one after the other.
-use Rattle.std.proofs.Common.{◌≡◌, ℕ, ◌+◌, ◌<◌, ◌≤◌, Bool, true, false, cond, eqb, ◌⊎◌, List, [], ◌∷◌, ◌++◌, length, get_or, drop, Some, None, Option, sym, refl, ap, ◌∙◌, inl, inr, append_assoc, append-nil, arith}
+use Rattle.std.proofs.Common.{◌≡◌, ℕ, ◌+◌, ◌<◌, ◌≤◌, Bool, true, false, cond, ◌==◌, ◌≢◌, List, [], ◌∷◌, ◌++◌, length, get_or, drop, Some, None, Option, sym, refl, ap, ◌∙◌, inl, inr, append_assoc, append-nil, arith}
 use Rattle.std.proofs.lemmas.List.{drop_more, drop_all}
-use Rattle.std.proofs.lemmas.Bool.{cases_lt, cases_eq, eq-eqb, ne_eqb, cond-true, cond-false}
+use Rattle.std.proofs.lemmas.Bool.{eq-eqb, ne_eqb, cond-true, cond-false}
 use Rattle.script.specs.Text.{flags, flag_before}
 
 -- flags that were read, before those that are read next
@@ -13,35 +13,24 @@ onto_push : (xs : List Bool) (b : Bool) (o : Option (List Bool)) → onto xs (fl
 onto_push xs b None = refl
 onto_push xs b (Some ys) = ap (λ (l : List Bool). Some l) (sym (append_assoc xs (b ∷ []) ys))
 
-apart : (c : ℕ) → 48 ≤ c → c ≤ 49 → (c ≡ 48 → ⊥) → (c ≡ 49 → ⊥) → ⊥
-apart c low high ne nf = elim (cases_lt c 49) [ inl a ↦ ne (omega arith) | inr a ↦ nf (omega arith) ]
-
 module _ (w : List ℕ) (i : ℕ) (xs : List Bool) where
-  opened : i < length w → flags (drop i w) ≡ cond (eqb (get_or w i 0) 48) (flag_before false (flags (drop (i + 1) w))) (cond (eqb (get_or w i 0) 49) (flag_before true (flags (drop (i + 1) w))) None)
+  opened : i < length w → flags (drop i w) ≡ cond (get_or w i 0 == 48) (flag_before false (flags (drop (i + 1) w))) (cond (get_or w i 0 == 49) (flag_before true (flags (drop (i + 1) w))) None)
   unfolding flags
   opened h = ap flags (drop_more w i 0 h)
 
-  pub flags_stop : i < length w → (get_or w i 0 < 48) ⊎ (49 < get_or w i 0) → onto xs (flags (drop i w)) ≡ None
-  flags_stop h out =
-      let ne : get_or w i 0 ≡ 48 → ⊥ = λ e. elim out [ inl a ↦ omega arith | inr a ↦ omega arith ] in
-      let nf : get_or w i 0 ≡ 49 → ⊥ = λ e. elim out [ inl a ↦ omega arith | inr a ↦ omega arith ] in
-      ap (onto xs) (opened h ∙ cond-false (eqb (get_or w i 0) 48) _ _ (ne_eqb (get_or w i 0) 48 ne) ∙ cond-false (eqb (get_or w i 0) 49) _ _ (ne_eqb (get_or w i 0) 49 nf))
+  pub flags_stop : i < length w → get_or w i 0 ≢ 48 → get_or w i 0 ≢ 49 → onto xs (flags (drop i w)) ≡ None
+  flags_stop h ne nf = ap (onto xs) (opened h ∙ cond-false (get_or w i 0 == 48) _ _ (ne_eqb (get_or w i 0) 48 ne) ∙ cond-false (get_or w i 0 == 49) _ _ (ne_eqb (get_or w i 0) 49 nf))
 
-  flags_zero : i < length w → get_or w i 0 ≡ 48 → onto xs (flags (drop i w)) ≡ onto (xs ++ eqb (get_or w i 0) 49 ∷ []) (flags (drop (i + 1) w))
-  flags_zero h e =
-      ap (onto xs) (opened h ∙ cond-true (eqb (get_or w i 0) 48) _ _ (eq-eqb (get_or w i 0) 48 e)) ∙ onto_push xs false (flags (drop (i + 1) w))
-      ∙ ap (λ b. onto (xs ++ b ∷ []) (flags (drop (i + 1) w))) (sym (ne_eqb (get_or w i 0) 49 (λ f. omega arith)))
+  pub flags_zero : i < length w → get_or w i 0 ≡ 48 → onto xs (flags (drop i w)) ≡ onto (xs ++ false ∷ []) (flags (drop (i + 1) w))
+  flags_zero h e = ap (onto xs) (opened h ∙ cond-true (get_or w i 0 == 48) _ _ (eq-eqb (get_or w i 0) 48 e)) ∙ onto_push xs false (flags (drop (i + 1) w))
 
-  flags_one : i < length w → get_or w i 0 ≡ 49 → onto xs (flags (drop i w)) ≡ onto (xs ++ eqb (get_or w i 0) 49 ∷ []) (flags (drop (i + 1) w))
+  pub flags_one : i < length w → get_or w i 0 ≡ 49 → onto xs (flags (drop i w)) ≡ onto (xs ++ true ∷ []) (flags (drop (i + 1) w))
   flags_one h e =
-      ap (onto xs) (opened h ∙ cond-false (eqb (get_or w i 0) 48) _ _ (ne_eqb (get_or w i 0) 48 (λ f. omega arith)) ∙ cond-true (eqb (get_or w i 0) 49) _ _ (eq-eqb (get_or w i 0) 49 e))
+      ap (onto xs) (opened h ∙ cond-false (get_or w i 0 == 48) _ _ (ne_eqb (get_or w i 0) 48 (λ f. omega arith)) ∙ cond-true (get_or w i 0 == 49) _ _ (eq-eqb (get_or w i 0) 49 e))
       ∙ onto_push xs true (flags (drop (i + 1) w))
-      ∙ ap (λ b. onto (xs ++ b ∷ []) (flags (drop (i + 1) w))) (sym (eq-eqb (get_or w i 0) 49 e))
-
-  -- a byte that is 0 or 1 gives the flag that says whether it is 1
-  pub flags_more : i < length w → 48 ≤ get_or w i 0 → get_or w i 0 ≤ 49 → onto xs (flags (drop i w)) ≡ onto (xs ++ eqb (get_or w i 0) 49 ∷ []) (flags (drop (i + 1) w))
-  flags_more h low high = elim (cases_eq (get_or w i 0) 48) [ inl e ↦ flags_zero h e | inr ne ↦ flags_one h (elim (cases_eq (get_or w i 0) 49) [ inl e ↦ e | inr nf ↦ absurd (apart (get_or w i 0) low high ne nf) ]) ]
 
   pub flags_end : length w ≤ i → onto xs (flags (drop i w)) ≡ Some xs
   unfolding flags
   flags_end h = ap (λ (l : List ℕ). onto xs (flags l)) (drop_all i w h) ∙ ap (λ (l : List Bool). Some l) (append-nil xs)
+
+pub ruleset flags_steps = (flags_stop, flags_zero, flags_one, flags_end)

@@ -1,4 +1,3 @@
-mod Arity
 mod Collecting
 mod Digits
 mod Flagging

@@ -1,24 +1,38 @@
 // The numbers of a line.
 ghost use Rattle.std.specs.Prelude.{◌≡◌};
+ghost use Rattle.script.specs.Commands as commands;
 ghost use Rattle.script.specs.Text as text;
 
-// The number that a word of digits writes, or none where it is no such word, or its number is above `max`.
-pub(crate) fn number(word: &[u8], max: usize) -> Option<usize>
-    ensures { result ≡ text.number max word.now }
+use crate::error::Mistake;
+
+// The number that a word of digits writes, or none where it is no such word, or its number is too large.
+fn number(word: &[u8]) -> Option<usize>
+    ensures { result ≡ text.number commands.max_index word.now }
 {
-    if word.len() == 0 {
+    if word.is_empty() {
         return None;
     }
-    let limit = u128::from(max as u64);
-    let mut value = 0u128;
+    let mut value = 0usize;
     for c in word {
-        if *c < b'0' || *c > b'9' {
+        if !c.is_ascii_digit() {
             return None;
         }
-        value = value * 10 + u128::from(*c - b'0');
-        if value > limit {
-            return None;
-        }
+        value = value.checked_mul(10)?.checked_add(usize::from(*c - b'0'))?;
     }
-    Some(value as usize)
+    Some(value)
+}
+
+// The number of the word at a place, which counts from 1.
+pub(crate) fn number_at(word: &[u8], place: usize) -> Result<usize, Mistake>
+    ensures { result ≡ commands.numbered commands.max_index place word.now }
+{
+    number(word).ok_or(Mistake::NoNumber(place))
+}
+
+// The item of the word at a place.
+pub(crate) fn item_at(word: &[u8], place: usize) -> Result<u8, Mistake>
+    ensures { result ≡ commands.numbered commands.max_item place word.now }
+{
+    let number = number_at(word, place)?;
+    u8::try_from(number).map_err(|_| Mistake::NoNumber(place))
 }

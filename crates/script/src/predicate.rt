@@ -1,20 +1,21 @@
 // The predicates that a line names.
-ghost use Rattle.std.specs.Prelude.{◌≡◌, IfOk, vec_items};
-ghost use Rattle.std.specs.Option as options;
+ghost use Rattle.std.specs.Prelude.{◌≡◌, IfOk};
 ghost use Rattle.script.specs.Commands as commands;
+ghost use Rattle.script.specs.Mistakes.{reading};
 ghost use Rattle.script.specs.Names as table;
 ghost use Rattle.script.specs.Text as text;
 
-use crate::command::{Kind, Mistake, Test};
-use crate::number::number;
-use crate::operands::MAX_ITEM;
-use std::alloc::{AllocError, Global};
+use crate::command::{Kind, Test};
+use crate::error::{Mistake, ParseError};
+use crate::number::item_at;
+use std::alloc::Global;
 use std::str::from_utf8;
 
-fn named(word: &str) -> Option<Kind>
+// The kind of predicate that a word names.
+fn named(word: &[u8]) -> Option<Kind>
     ensures { result ≡ table.lookup table.kinds word.now }
 {
-    match word {
+    match from_utf8(word).ok()? {
         "at_least" => Some(Kind::AtLeast),
         "adding" => Some(Kind::Adding),
         "mask" => Some(Kind::Mask),
@@ -22,59 +23,26 @@ fn named(word: &str) -> Option<Kind>
     }
 }
 
-// The kind of predicate that a word names.
-pub(crate) fn kind_of(word: &[u8]) -> Option<Kind>
-    ensures { result ≡ table.lookup table.kinds word.now }
+// The kind of predicate that the word at a place names.
+pub(crate) fn kind_at(word: &[u8], place: usize) -> Result<Kind, Mistake>
+    ensures { result ≡ commands.kind_at place (table.lookup table.kinds word.now) }
 {
-    match from_utf8(word) {
-        Ok(word) => named(word),
-        Err(_) => None,
-    }
+    named(word).ok_or(Mistake::UnknownPredicate(place))
 }
 
-// The flags that a word of 0 and 1 writes.
-fn flags(heap: Global, word: &[u8]) -> Result<Option<Vec<bool>>, AllocError>
-    ensures { IfOk result (λ v. options.option_map vec_items v ≡ text.flags word.now) }
+// The mask that the word of 0 and 1 at a place writes.
+#[tactic(auto, using(crate::proofs::Flagging::flags_steps))]
+fn mask(heap: Global, place: usize, word: &[u8]) -> Result<Test<Vec<bool>>, ParseError>
+    ensures { IfOk (reading result) (λ t. commands.test_meaning t ≡ commands.masked place (text.flags word.now)) }
 {
     let mut flags = Vec::new(heap);
     for c in word {
-        if *c < b'0' || *c > b'1' {
-            return Ok(None);
+        if *c != b'0' && *c != b'1' {
+            return Err(Mistake::NoMask(place).into());
         }
         flags.push(*c == b'1')?;
     }
-    Ok(Some(flags))
-}
-
-fn mask(
-    heap: Global,
-    place: usize,
-    word: &[u8],
-) -> Result<Result<Test<Vec<bool>>, Mistake>, AllocError>
-    ensures { IfOk result (λ t. commands.test_meaning t ≡ commands.masked place (text.flags word.now)) }
-{
-    match flags(heap, word)? {
-        Some(flags) => Ok(Ok(Test::Mask(flags))),
-        None => Ok(Err(Mistake::NoMask(place))),
-    }
-}
-
-fn at_least(place: usize, word: &[u8]) -> Result<Test<Vec<bool>>, Mistake>
-    ensures { commands.test_meaning result ≡ commands.tested Kind.AtLeast place word.now }
-{
-    match number(word, MAX_ITEM) {
-        Some(n) => Ok(Test::AtLeast(n as u8)),
-        None => Err(Mistake::NoNumber(place)),
-    }
-}
-
-fn adding(place: usize, word: &[u8]) -> Result<Test<Vec<bool>>, Mistake>
-    ensures { commands.test_meaning result ≡ commands.tested Kind.Adding place word.now }
-{
-    match number(word, MAX_ITEM) {
-        Some(n) => Ok(Test::Adding(n as u8)),
-        None => Err(Mistake::NoNumber(place)),
-    }
+    Ok(Test::Mask(flags))
 }
 
 // A predicate of a kind, with what the word at a place gives it.
@@ -83,12 +51,12 @@ pub(crate) fn tested(
     kind: Kind,
     place: usize,
     word: &[u8],
-) -> Result<Result<Test<Vec<bool>>, Mistake>, AllocError>
-    ensures { IfOk result (λ t. commands.test_meaning t ≡ commands.tested kind place word.now) }
+) -> Result<Test<Vec<bool>>, ParseError>
+    ensures { IfOk (reading result) (λ t. commands.test_meaning t ≡ commands.tested kind place word.now) }
 {
     match kind {
-        Kind::AtLeast => Ok(at_least(place, word)),
-        Kind::Adding => Ok(adding(place, word)),
+        Kind::AtLeast => Ok(Test::AtLeast(item_at(word, place)?)),
+        Kind::Adding => Ok(Test::Adding(item_at(word, place)?)),
         Kind::Mask => mask(heap, place, word),
     }
 }
