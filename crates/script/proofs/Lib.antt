@@ -1,5 +1,3 @@
-mod Collecting
 mod Digits
-mod Flagging
 mod Lookup
 mod Wording

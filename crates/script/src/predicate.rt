@@ -31,7 +31,7 @@ pub(crate) fn kind_at(word: &[u8], place: usize) -> Result<Kind, Mistake>
 }
 
 // The mask that the word of 0 and 1 at a place writes.
-#[tactic(auto, using(crate::proofs::Flagging::flags_steps))]
+#[tactic(auto, unfolding(crate::specs::Text::flags))]
 fn mask(heap: Global, place: usize, word: &[u8]) -> Result<Test<Vec<bool>>, ParseError>
     ensures { IfOk (reading result) (λ t. commands.test_meaning t ≡ commands.masked place (text.flags word.now)) }
 {
