@@ -6,7 +6,7 @@ ghost use Rattle.script.specs.Text as text;
 use crate::error::Mistake;
 
 // The number that a word of digits writes, or none where it is no such word, or its number is too large.
-#[tactic(auto, using(crate::proofs::Digits::number_steps))]
+#[tactic(auto, using(crate::proofs::Digits::number_over), unfolding(crate::specs::Text::number_after))]
 fn number(word: &[u8]) -> Option<usize>
     ensures { result ≡ text.number commands.max_index word.now }
 {
