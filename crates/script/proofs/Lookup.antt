@@ -1,35 +1,31 @@
 -- What a table of ASCII words has for a word that is no text.
-use Rattle.std.proofs.Common.{◌≡◌, ℕ, zero, suc, Bool, true, false, ◌&&◌, nat_lt, List, [], ◌∷◌, Some, None, Ok, Err, Result, Bor, MatchResult, IsUtf8, IsAscii, sym, refl, ◌∙◌, subst, inl, inr, arith}
+use Rattle.std.proofs.Common.{◌≡◌, ℕ, Bool, true, false, List, [], ◌∷◌, Some, None, Ok, Err, Result, Bor, MatchResult, IsUtf8, IsAscii, sym, refl, ◌∙◌, subst}
 use Rattle.std.proofs.lemmas.Slice.Eq.{bytes_eq-Decides}
-use Rattle.std.proofs.lemmas.Bool.{cases_Bool, cond-false, and_parts, ltb-true}
+use Rattle.std.proofs.lemmas.Bool.{cond-false, and_parts, ltb-true, false_from_ne_true}
 use Rattle.std.proofs.lemmas.Str.{IsUtf8-from_ascii}
+use Rattle.std.proofs.lemmas.Str.Ascii.{IsAscii-nil, IsAscii-cons}
+use Rattle.std.specs.Char.{is_ascii}
+use Rattle.std.specs.List.{list_all}
 use Rattle.std.specs.Result.{result_ok}
 use Rattle.std.specs.Str.{bytes_eq}
 use Rattle.script.specs.Names.{lookup}
 
 abbrev ascii : List ℕ → Bool
-ascii [] = true
-ascii (c ∷ cs) = nat_lt c 128 && ascii cs
+ascii w = list_all is_ascii w
 
-is_ascii : (bs : List ℕ) → ascii bs ≡ true → IsAscii bs
-is_ascii [] e i = omega arith
-is_ascii (c ∷ cs) e zero = ltb-true c 128 (and_parts (nat_lt c 128) (ascii cs) e).0
-is_ascii (c ∷ cs) e (suc i) = is_ascii cs (and_parts (nat_lt c 128) (ascii cs) e).1 i
+IsAscii-from_test : (w : List ℕ) → ascii w ≡ true → IsAscii w
+IsAscii-from_test [] e = IsAscii-nil
+IsAscii-from_test (c ∷ w) e = let both = and_parts (is_ascii c) (ascii w) e in IsAscii-cons c w (ltb-true c 128 both.0) (IsAscii-from_test w both.1)
 
 module _ {A : Type 0} where
-  -- the test that each word of a table is ASCII
   abbrev pub ascii_words : List (List ℕ × A) → Bool
-  ascii_words [] = true
-  ascii_words (row ∷ rows) = ascii row.0 && ascii_words rows
+  ascii_words rows = list_all (λ row. ascii row.0) rows
 
   absent : (rows : List (List ℕ × A)) (w : List ℕ) → ascii_words rows ≡ true → ¬ (IsUtf8 w) → None ≡ lookup rows w
   absent [] w e h = refl
   absent (row ∷ rows) w e h =
       let both = and_parts (ascii row.0) (ascii_words rows) e in
-      let other : bytes_eq w row.0 ≡ false = elim (cases_Bool (bytes_eq w row.0)) [
-        | inl same ↦ absurd (h (IsUtf8-from_ascii w (subst IsAscii (sym ((bytes_eq-Decides w row.0).0 same)) (is_ascii row.0 both.0))))
-        | inr e ↦ e
-      ] in
+      let other = false_from_ne_true (bytes_eq w row.0) (λ same. h (subst IsUtf8 (sym ((bytes_eq-Decides w row.0).0 same)) (IsUtf8-from_ascii row.0 (IsAscii-from_test row.0 both.0)))) in
       absent rows w both.1 h ∙ sym (cond-false (bytes_eq w row.0) (Some row.1) (lookup rows w) other)
 
   -- the two last facts are what `from_utf8` and `ok` ensure
