@@ -1,4 +1,4 @@
--- What is said of a line that cannot be read.
+-- What is wrong with a line that cannot be read, and what is said of it.
 use Rattle.std.specs.Prelude.{ℕ, List, ◌++◌, Ok, Err, Result, codes, decimal}
 use Rattle.std.specs.declared.alloc.AllocError.{AllocError}
 use Rattle.script.specs.declared.error.Mistake.{Mistake}
@@ -14,6 +14,7 @@ reason (NoNumber place) = codes "word " ++ (decimal place ++ codes " after the n
 reason (NoMask place) = codes "word " ++ (decimal place ++ codes " after the name is no mask of 0 and 1")
 reason (UnknownPredicate place) = codes "word " ++ (decimal place ++ codes " after the name is no predicate")
 
+-- what is said of an error, by its kind
 abbrev pub message : ParseError → List ℕ
 message (error.Mistake m) = reason m
 message (error.NoMemory _) = codes "memory allocation failed"

@@ -7,9 +7,7 @@ ghost use Rattle.script.specs.Text as text;
 
 use crate::command::{Command, Indexed, Kind, Name, Plain};
 use crate::error::{Mistake, ParseError};
-use crate::number::{item_at, number_at};
-use crate::operands::{items, lone, miscounted};
-use crate::predicate::{kind_at, tested};
+use crate::operands::{Operand, items, lone, miscounted};
 use crate::words::split;
 use places::End;
 use std::alloc::Global;
@@ -63,9 +61,9 @@ fn change(heap: Global, words: &[&[u8]]) -> Result<Command<Vec<u8>, Vec<bool>>, 
     let [index, kind, given] = words else {
         return Err(miscounted(words, 3).into());
     };
-    let index = number_at(index, 1)?;
-    let kind = kind_at(kind, 2)?;
-    let test = tested(heap, kind, 3, given)?;
+    let index = Operand::new(*index, 1).number()?;
+    let kind = Operand::new(*kind, 2).kind()?;
+    let test = Operand::new(*given, 3).test(heap, kind)?;
     Ok(Command::Change(index, test))
 }
 
@@ -84,34 +82,34 @@ fn command(
             Ok(Command::Plain(call))
         }
         Name::Indexed(call) => {
-            let index = number_at(lone(words)?, 1)?;
+            let index = lone(words)?.number()?;
             Ok(Command::Indexed(call, index))
         }
         Name::Push(end) => {
-            let item = item_at(lone(words)?, 1)?;
+            let item = lone(words)?.item()?;
             Ok(Command::Push(end, item))
         }
         Name::Swap => {
             let [i, j] = words else {
                 return Err(miscounted(words, 2).into());
             };
-            let i = number_at(i, 1)?;
-            let j = number_at(j, 2)?;
+            let i = Operand::new(*i, 1).number()?;
+            let j = Operand::new(*j, 2).number()?;
             Ok(Command::Swap(i, j))
         }
         Name::Load => Ok(Command::Load(items(heap, words)?)),
         // without a number it asks for the capacity, and with one it makes a ring
         Name::Capacity if words.is_empty() => Ok(Command::Plain(Plain::Capacity)),
         Name::Capacity => {
-            let slots = number_at(lone(words)?, 1)?;
+            let slots = lone(words)?.number()?;
             Ok(Command::Make(slots))
         }
         Name::Retain(kind) => {
-            let test = tested(heap, kind, 1, lone(words)?)?;
+            let test = lone(words)?.test(heap, kind)?;
             Ok(Command::Retain(test))
         }
         Name::PopIf(end, kind) => {
-            let test = tested(heap, kind, 1, lone(words)?)?;
+            let test = lone(words)?.test(heap, kind)?;
             Ok(Command::PopIf(end, test))
         }
         Name::Change => change(heap, words),

@@ -5,10 +5,41 @@ ghost use Rattle.script.specs.Commands as commands;
 ghost use Rattle.script.specs.Mistakes.{reading};
 
 use crate::error::{Mistake, ParseError};
-use crate::number::item_at;
+use crate::number::number;
 use std::alloc::Global;
 
+// A word, and its place after the name, from 1.
+#[derive(Clone, Copy, Debug)]
+pub(crate) struct Operand<'a> {
+    pub(crate) word: &'a [u8],
+    pub(crate) place: usize,
+}
+
+impl<'a> Operand<'a> {
+    pub(crate) fn new(word: &'a [u8], place: usize) -> Operand<'a>
+        ensures word { result.word.now ≡ word.now }
+        ensures place { result.place ≡ place }
+    {
+        Operand { word, place }
+    }
+
+    pub(crate) fn number(&self) -> Result<usize, Mistake>
+        ensures { result ≡ commands.numbered commands.max_index self.now.place self.now.word.now }
+    {
+        number(self.word).ok_or(Mistake::NoNumber(self.place))
+    }
+
+    pub(crate) fn item(&self) -> Result<u8, Mistake>
+        ensures { result ≡ commands.numbered commands.max_item self.now.place self.now.word.now }
+    {
+        u8::try_from(self.number()?)
+            .ok()
+            .ok_or(Mistake::NoNumber(self.place))
+    }
+}
+
 // What is wrong with words that are not so many as a call takes.
+// It gives no array of `N` words, because the borrow checker covers none in a `Result`.
 pub(crate) fn miscounted(words: &[&[u8]], wanted: usize) -> Mistake
     ensures { result ≡ commands.miscounted (length words.now) wanted }
 {
@@ -20,11 +51,12 @@ pub(crate) fn miscounted(words: &[&[u8]], wanted: usize) -> Mistake
 }
 
 // The one word that there is.
-pub(crate) fn lone<'a>(words: &[&'a [u8]]) -> Result<&'a [u8], Mistake>
-    ensures { result_map_both (λ w. w.now) (λ m. m) result ≡ commands.lone (commands.held words.now) }
+pub(crate) fn lone<'a>(words: &[&'a [u8]]) -> Result<Operand<'a>, Mistake>
+    ensures word { result_map_both (λ x. x.word.now) (λ m. m) result ≡ commands.lone (commands.held words.now) }
+    ensures place { IfOk result (λ x. x.place ≡ 1) }
 {
     match words {
-        [word] => Ok(*word),
+        [word] => Ok(Operand::new(*word, 1)),
         _ => Err(miscounted(words, 1)),
     }
 }
@@ -35,7 +67,7 @@ pub(crate) fn items(heap: Global, words: &[&[u8]]) -> Result<Vec<u8>, ParseError
 {
     let mut items = Vec::new(heap);
     for (i, word) in words.iter().enumerate() {
-        items.push(item_at(word, i + 1)?)?;
+        items.push(Operand::new(*word, i + 1).item()?)?;
     }
     Ok(items)
 }

@@ -7,7 +7,7 @@ ghost use Rattle.script.specs.Text as text;
 
 use crate::command::{Kind, Test};
 use crate::error::{Mistake, ParseError};
-use crate::number::item_at;
+use crate::operands::Operand;
 use std::alloc::Global;
 use std::str::from_utf8;
 
@@ -23,40 +23,37 @@ fn named(word: &[u8]) -> Option<Kind>
     }
 }
 
-// The kind of predicate that the word at a place names.
-pub(crate) fn kind_at(word: &[u8], place: usize) -> Result<Kind, Mistake>
-    ensures { result ≡ commands.kind_at place (table.lookup table.kinds word.now) }
-{
-    named(word).ok_or(Mistake::UnknownPredicate(place))
-}
-
-// The mask that the word of 0 and 1 at a place writes.
-#[tactic(auto, unfolding(crate::specs::Text::flags))]
-fn mask(heap: Global, place: usize, word: &[u8]) -> Result<Test<Vec<bool>>, ParseError>
-    ensures { IfOk (reading result) (λ t. commands.test_meaning t ≡ commands.masked place (text.flags word.now)) }
-{
-    let mut flags = Vec::new(heap);
-    for c in word {
-        if *c != b'0' && *c != b'1' {
-            return Err(Mistake::NoMask(place).into());
-        }
-        flags.push(*c == b'1')?;
+impl Operand<'_> {
+    // The kind of predicate that it names.
+    pub(crate) fn kind(&self) -> Result<Kind, Mistake>
+        ensures { result ≡ commands.kind_at self.now.place (table.lookup table.kinds self.now.word.now) }
+    {
+        named(self.word).ok_or(Mistake::UnknownPredicate(self.place))
     }
-    Ok(Test::Mask(flags))
-}
 
-// A predicate of a kind, with what the word at a place gives it.
-pub(crate) fn tested(
-    heap: Global,
-    kind: Kind,
-    place: usize,
-    word: &[u8],
-) -> Result<Test<Vec<bool>>, ParseError>
-    ensures { IfOk (reading result) (λ t. commands.test_meaning t ≡ commands.tested kind place word.now) }
-{
-    match kind {
-        Kind::AtLeast => Ok(Test::AtLeast(item_at(word, place)?)),
-        Kind::Adding => Ok(Test::Adding(item_at(word, place)?)),
-        Kind::Mask => mask(heap, place, word),
+    // The mask that it writes in 0 and 1.
+    #[tactic(auto, unfolding(crate::specs::Text::flags))]
+    fn mask(&self, heap: Global) -> Result<Test<Vec<bool>>, ParseError>
+        ensures { IfOk (reading result) (λ t. commands.test_meaning t ≡ commands.masked self.now.place (text.flags self.now.word.now)) }
+    {
+        let mut flags = Vec::new(heap);
+        for c in self.word {
+            if *c != b'0' && *c != b'1' {
+                return Err(Mistake::NoMask(self.place).into());
+            }
+            flags.push(*c == b'1')?;
+        }
+        Ok(Test::Mask(flags))
+    }
+
+    // A predicate of a kind, with what it is given here.
+    pub(crate) fn test(&self, heap: Global, kind: Kind) -> Result<Test<Vec<bool>>, ParseError>
+        ensures { IfOk (reading result) (λ t. commands.test_meaning t ≡ commands.tested kind self.now.place self.now.word.now) }
+    {
+        match kind {
+            Kind::AtLeast => Ok(Test::AtLeast(self.item()?)),
+            Kind::Adding => Ok(Test::Adding(self.item()?)),
+            Kind::Mask => self.mask(heap),
+        }
     }
 }
