@@ -14,7 +14,7 @@ reason (NoNumber place) = codes "word " ++ (decimal place ++ codes " after the n
 reason (NoMask place) = codes "word " ++ (decimal place ++ codes " after the name is no mask of 0 and 1")
 reason (UnknownPredicate place) = codes "word " ++ (decimal place ++ codes " after the name is no predicate")
 
--- what is said of an error, by its kind
+-- why a line was not read
 abbrev pub message : ParseError → List ℕ
 message (error.Mistake m) = reason m
 message (error.NoMemory _) = codes "memory allocation failed"
