@@ -39,7 +39,7 @@ impl<'a> Operand<'a> {
 }
 
 // What is wrong with words that are not so many as a call takes.
-// It gives no array of `N` words, because the borrow checker covers none in a `Result`.
+// No `exactly::<N>` answers them as an array: the borrow checker covers none of length `N` in a `Result`.
 pub(crate) fn miscounted(words: &[&[u8]], wanted: usize) -> Mistake
     ensures { result ≡ commands.miscounted (length words.now) wanted }
 {
