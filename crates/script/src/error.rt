@@ -93,7 +93,7 @@ impl fmt::Display for ParseError {
     fn fmt<W: fmt::Write>(&self, f: &mut fmt::Formatter<W>) -> fmt::Result {
         match self {
             ParseError::Mistake(mistake) => write!(f, "{mistake}"),
-            // as std prints the error, which states no text of it
+            // std's `Display` of the error prints this too, but no clause of std says so
             ParseError::NoMemory(_) => f.write_str("memory allocation failed"),
         }
     }
