@@ -141,8 +141,8 @@ fn steps<'a>(
     ensures { ring.new.places.capacity ≡ ring.old.places.capacity }
 {
     while let Some(line) = lines.next() {
-        match parse(rt.alloc(), line.text)? {
-            Err(mistake) => skip(rt, line, mistake)?,
+        match parse(rt.alloc(), line.text) {
+            Err(error) => skip(rt, line, error.mistake()?)?,
             Ok(Command::Plain(Plain::Close)) => return Ok(Some(line)),
             Ok(command) => step(rt, line, ring, slots, bin, command)?,
         }
@@ -184,8 +184,8 @@ fn bench(
 // The lines before the making; answers how many slots it asks for, if it comes.
 fn opening(rt: &HostRuntime, lines: &mut Lines) -> anyhow::Result<Option<usize>> {
     while let Some(line) = lines.next() {
-        match parse(rt.alloc(), line.text)? {
-            Err(mistake) => skip(rt, line, mistake)?,
+        match parse(rt.alloc(), line.text) {
+            Err(error) => skip(rt, line, error.mistake()?)?,
             Ok(Command::Nothing) => (),
             Ok(Command::Make(slots)) => {
                 tell(rt, line, "ok | /")?;
@@ -200,8 +200,8 @@ fn opening(rt: &HostRuntime, lines: &mut Lines) -> anyhow::Result<Option<usize>>
 // The lines after the closing.
 fn ending(rt: &HostRuntime, lines: &mut Lines) -> anyhow::Result<()> {
     while let Some(line) = lines.next() {
-        match parse(rt.alloc(), line.text)? {
-            Err(mistake) => skip(rt, line, mistake)?,
+        match parse(rt.alloc(), line.text) {
+            Err(error) => skip(rt, line, error.mistake()?)?,
             Ok(Command::Nothing) => (),
             Ok(_) => skip(rt, line, "the ring is closed")?,
         }

@@ -1,6 +1,3 @@
-mod Arity
-mod Collecting
 mod Digits
-mod Flagging
 mod Lookup
 mod Wording

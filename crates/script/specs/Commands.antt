@@ -1,5 +1,5 @@
 -- What the words of a line ask for.
-use Rattle.std.specs.Prelude.{ℕ, ◌+◌, ◌-◌, ◌^◌, Bool, false, cond, List, [], ◌∷◌, map, Some, None, Ok, Err, vec_items, Option, Result, Vec, ◌==◌}
+use Rattle.std.specs.Prelude.{ℕ, ◌+◌, ◌-◌, ◌^◌, Bool, false, cond, nat_lt, List, [], ◌∷◌, map, Some, None, Ok, Err, vec_items, Option, Result, Vec, ◌==◌}
 use Rattle.std.specs.Borrow.{Bor}
 use Rattle.std.specs.Result.{result_map_both}
 use Rattle.std.specs.declared.alloc.Global.{Global}
@@ -10,8 +10,8 @@ use Rattle.script.specs.declared.command.Test.{Test}
 use Rattle.script.specs.declared.command.Test.TheVariants.{AtLeast, Adding, Mask}
 use Rattle.script.specs.declared.command.Name.{Name}
 use Rattle.script.specs.declared.command.Name.TheVariants as name
-use Rattle.script.specs.declared.command.Mistake.{Mistake}
-use Rattle.script.specs.declared.command.Mistake.TheVariants.{UnknownCall, TooFewNumbers, TooManyNumbers, NoNumber, NoMask, UnknownPredicate}
+use Rattle.script.specs.declared.error.Mistake.{Mistake}
+use Rattle.script.specs.declared.error.Mistake.TheVariants.{UnknownCall, TooFewNumbers, TooManyNumbers, NoNumber, NoMask, UnknownPredicate}
 use Rattle.script.specs.declared.command.Command.{Command}
 use Rattle.script.specs.declared.command.Command.TheVariants.{Nothing, Make, Plain, Indexed, Push, Swap, Load, Retain, PopIf, Change}
 use Rattle.script.specs.Text.{number, flags}
@@ -65,6 +65,10 @@ two max (w ∷ v ∷ u ∷ ws) = Err TooManyNumbers
 abbrev pub items : (place : ℕ) → List (List ℕ) → Result (List ℕ) Mistake
 items place [] = Ok []
 items place (w ∷ ws) = then (numbered max_item place w) (λ x. then (items (place + 1) ws) (λ xs. Ok (x ∷ xs)))
+
+-- what is wrong with a count that is not the wanted one
+abbrev pub miscounted : (count wanted : ℕ) → Mistake
+miscounted count wanted = cond (nat_lt count wanted) TooFewNumbers TooManyNumbers
 
 -- exactly one word
 abbrev pub lone : List (List ℕ) → Result (List ℕ) Mistake

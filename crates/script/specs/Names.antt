@@ -1,7 +1,7 @@
 -- The names of the calls.
 use Rattle.std.specs.Prelude.{ℕ, cond, List, [], ◌∷◌, Some, None, codes, Option}
 use Rattle.std.specs.Str.{bytes_eq}
-use Rattle.script.specs.declared.command.End.TheVariants as end
+use Rattle.places.specs.declared.End.TheVariants as end
 use Rattle.script.specs.declared.command.Plain.TheVariants as plain
 use Rattle.script.specs.declared.command.Indexed.TheVariants as indexed
 use Rattle.script.specs.declared.command.Kind.{Kind}

@@ -1,17 +1,8 @@
-// What a line can ask for, and what can be wrong with it.
-ghost use Rattle.std.specs.Prelude.{Some};
-ghost use Rattle.script.specs.Mistakes.{reason};
-
-use std::fmt;
-
-#[derive(Clone, Copy)]
-pub enum End {
-    Front,
-    Back,
-}
+// What a line can ask for.
+use places::End;
 
 // The calls that take no number.
-#[derive(Clone, Copy)]
+#[derive(Clone, Copy, Debug, PartialEq, Eq)]
 pub enum Plain {
     PopFront,
     PopBack,
@@ -30,7 +21,7 @@ pub enum Plain {
 }
 
 // The calls that take one index, or one length.
-#[derive(Clone, Copy)]
+#[derive(Clone, Copy, Debug, PartialEq, Eq)]
 pub enum Indexed {
     Get,
     Truncate,
@@ -39,7 +30,7 @@ pub enum Indexed {
 }
 
 // The kinds of predicates.
-#[derive(Clone, Copy)]
+#[derive(Clone, Copy, Debug, PartialEq, Eq)]
 pub enum Kind {
     AtLeast,
     Adding,
@@ -47,7 +38,7 @@ pub enum Kind {
 }
 
 // A predicate, with what it is given. `F` holds the flags of a mask.
-#[derive(Drop)]
+#[derive(Clone, Debug, Drop, PartialEq, Eq)]
 pub enum Test<F> {
     AtLeast(u8),
     Adding(u8),
@@ -55,7 +46,7 @@ pub enum Test<F> {
 }
 
 // The first word of a line.
-#[derive(Clone, Copy)]
+#[derive(Clone, Copy, Debug, PartialEq, Eq)]
 pub enum Name {
     Plain(Plain),
     Indexed(Indexed),
@@ -69,7 +60,7 @@ pub enum Name {
 }
 
 // What a line asks for. `I` holds the items of a load, and `F` the flags of a mask.
-#[derive(Drop)]
+#[derive(Clone, Debug, Drop, PartialEq, Eq)]
 pub enum Command<I, F> {
     // a blank line, or a comment
     Nothing,
@@ -83,39 +74,4 @@ pub enum Command<I, F> {
     Retain(Test<F>),
     PopIf(End, Test<F>),
     Change(usize, Test<F>),
-}
-
-#[derive(Clone, Copy)]
-pub enum Mistake {
-    // the first word is no call's name
-    UnknownCall,
-    TooFewNumbers,
-    TooManyNumbers,
-    // the word at this place, from 1, is no number, or too large a one
-    NoNumber(usize),
-    // the word at this place is not made of 0 and 1
-    NoMask(usize),
-    // the word at this place is no predicate's name
-    UnknownPredicate(usize),
-}
-
-impl fmt::Display for Mistake {
-    ghost output = { λ m. Some (reason m) };
-
-    fn fmt<W: fmt::Write>(&self, f: &mut fmt::Formatter<W>) -> fmt::Result {
-        match self {
-            Mistake::UnknownCall => f.write_str("no call has this name"),
-            Mistake::TooFewNumbers => f.write_str("a number is missing"),
-            Mistake::TooManyNumbers => f.write_str("there are too many words"),
-            Mistake::NoNumber(place) => {
-                write!(f, "word {place} after the name is no number, or too large")
-            }
-            Mistake::NoMask(place) => {
-                write!(f, "word {place} after the name is no mask of 0 and 1")
-            }
-            Mistake::UnknownPredicate(place) => {
-                write!(f, "word {place} after the name is no predicate")
-            }
-        }
-    }
 }

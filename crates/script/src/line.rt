@@ -1,20 +1,23 @@
 // A line of a script, read whole.
-ghost use Rattle.std.specs.Prelude.{◌≡◌, [], ◌∷◌, IfOk, Some};
+ghost use Rattle.std.specs.Prelude.{◌≡◌, IfOk, Some};
 ghost use Rattle.script.specs.Commands as commands;
+ghost use Rattle.script.specs.Mistakes.{reading};
 ghost use Rattle.script.specs.Names as table;
 ghost use Rattle.script.specs.Text as text;
 
-use crate::command::{Command, End, Indexed, Kind, Mistake, Name, Plain, Test};
-use crate::operands::{MAX_INDEX, MAX_ITEM, items, lone, none, number_at, one, two};
-use crate::predicate::{kind_of, tested};
+use crate::command::{Command, Indexed, Kind, Name, Plain};
+use crate::error::{Mistake, ParseError};
+use crate::operands::{Operand, items, lone, miscounted};
 use crate::words::split;
-use std::alloc::{AllocError, Global};
+use places::End;
+use std::alloc::Global;
 use std::str::from_utf8;
 
-fn named(word: &str) -> Option<Name>
+// The name that a word is.
+fn named(word: &[u8]) -> Option<Name>
     ensures { result ≡ table.lookup table.names word.now }
 {
-    match word {
+    match from_utf8(word).ok()? {
         "capacity" => Some(Name::Capacity),
         "load" => Some(Name::Load),
         "push_back" => Some(Name::Push(End::Back)),
@@ -51,162 +54,64 @@ fn named(word: &str) -> Option<Name>
     }
 }
 
-// The name that a word is, or none.
-fn name(word: &[u8]) -> Option<Name>
-    ensures { result ≡ table.lookup table.names word.now }
+// `change 2 adding 7`: the index, the kind of predicate and what it is given.
+fn change(heap: Global, words: &[&[u8]]) -> Result<Command<Vec<u8>, Vec<bool>>, ParseError>
+    ensures { IfOk (reading result) (λ v. commands.meaning v ≡ commands.changing (commands.held words.now)) }
 {
-    match from_utf8(word) {
-        Ok(word) => named(word),
-        Err(_) => None,
-    }
-}
-
-// A call that takes no number.
-fn plain(call: Plain, words: &[&[u8]]) -> Result<Command<Vec<u8>, Vec<bool>>, Mistake>
-    ensures { commands.meaning result ≡ commands.named (Some (Name.Plain call)) (commands.held words.now) }
-{
-    none(words)?;
-    Ok(Command::Plain(call))
-}
-
-fn indexed(call: Indexed, words: &[&[u8]]) -> Result<Command<Vec<u8>, Vec<bool>>, Mistake>
-    ensures { commands.meaning result ≡ commands.named (Some (Name.Indexed call)) (commands.held words.now) }
-{
-    let index = one(words, MAX_INDEX)?;
-    Ok(Command::Indexed(call, index))
-}
-
-fn push(end: End, words: &[&[u8]]) -> Result<Command<Vec<u8>, Vec<bool>>, Mistake>
-    ensures { commands.meaning result ≡ commands.named (Some (Name.Push end)) (commands.held words.now) }
-{
-    let item = one(words, MAX_ITEM)?;
-    Ok(Command::Push(end, item as u8))
-}
-
-fn swap(words: &[&[u8]]) -> Result<Command<Vec<u8>, Vec<bool>>, Mistake>
-    ensures { commands.meaning result ≡ commands.named (Some Name.Swap) (commands.held words.now) }
-{
-    let (i, j) = two(words, MAX_INDEX)?;
-    Ok(Command::Swap(i, j))
-}
-
-// Without a number it asks for the capacity, and with one it makes a ring.
-fn capacity(words: &[&[u8]]) -> Result<Command<Vec<u8>, Vec<bool>>, Mistake>
-    ensures { commands.meaning result ≡ commands.named (Some Name.Capacity) (commands.held words.now) }
-{
-    if words.len() == 0 {
-        return Ok(Command::Plain(Plain::Capacity));
-    }
-    let slots = one(words, MAX_INDEX)?;
-    Ok(Command::Make(slots))
-}
-
-fn load(
-    heap: Global,
-    words: &[&[u8]],
-) -> Result<Result<Command<Vec<u8>, Vec<bool>>, Mistake>, AllocError>
-    ensures { IfOk result (λ v. commands.meaning v ≡ commands.named (Some Name.Load) (commands.held words.now)) }
-{
-    match items(heap, words)? {
-        Ok(items) => Ok(Ok(Command::Load(items))),
-        Err(mistake) => Ok(Err(mistake)),
-    }
-}
-
-// A predicate of a kind, with the one word that there is.
-fn lone_test(
-    heap: Global,
-    kind: Kind,
-    words: &[&[u8]],
-) -> Result<Result<Test<Vec<bool>>, Mistake>, AllocError>
-    ensures { IfOk result (λ t. commands.test_meaning t ≡ commands.then (commands.lone (commands.held words.now)) (λ w. commands.tested kind 1 w)) }
-{
-    match lone(words) {
-        Ok(word) => tested(heap, kind, 1, word),
-        Err(mistake) => Ok(Err(mistake)),
-    }
-}
-
-fn retain(
-    heap: Global,
-    kind: Kind,
-    words: &[&[u8]],
-) -> Result<Result<Command<Vec<u8>, Vec<bool>>, Mistake>, AllocError>
-    ensures { IfOk result (λ v. commands.meaning v ≡ commands.named (Some (Name.Retain kind)) (commands.held words.now)) }
-{
-    match lone_test(heap, kind, words)? {
-        Ok(test) => Ok(Ok(Command::Retain(test))),
-        Err(mistake) => Ok(Err(mistake)),
-    }
-}
-
-fn pop_if(
-    heap: Global,
-    end: End,
-    kind: Kind,
-    words: &[&[u8]],
-) -> Result<Result<Command<Vec<u8>, Vec<bool>>, Mistake>, AllocError>
-    ensures { IfOk result (λ v. commands.meaning v ≡ commands.named (Some (Name.PopIf end kind)) (commands.held words.now)) }
-{
-    match lone_test(heap, kind, words)? {
-        Ok(test) => Ok(Ok(Command::PopIf(end, test))),
-        Err(mistake) => Ok(Err(mistake)),
-    }
-}
-
-// The index, the kind of predicate and what it is given, from one word each.
-fn change_by(
-    heap: Global,
-    index: &[u8],
-    kind: &[u8],
-    given: &[u8],
-) -> Result<Result<Command<Vec<u8>, Vec<bool>>, Mistake>, AllocError>
-    ensures { IfOk result (λ v. commands.meaning v ≡ commands.changing (index.now ∷ kind.now ∷ given.now ∷ [])) }
-{
-    let i = match number_at(index, 1, MAX_INDEX) {
-        Ok(i) => i,
-        Err(mistake) => return Ok(Err(mistake)),
+    let [index, kind, given] = words else {
+        return Err(miscounted(words, 3).into());
     };
-    let Some(kind) = kind_of(kind) else {
-        return Ok(Err(Mistake::UnknownPredicate(2)));
-    };
-    match tested(heap, kind, 3, given)? {
-        Ok(test) => Ok(Ok(Command::Change(i, test))),
-        Err(mistake) => Ok(Err(mistake)),
-    }
-}
-
-fn change(
-    heap: Global,
-    words: &[&[u8]],
-) -> Result<Result<Command<Vec<u8>, Vec<bool>>, Mistake>, AllocError>
-    ensures { IfOk result (λ v. commands.meaning v ≡ commands.named (Some Name.Change) (commands.held words.now)) }
-{
-    if words.len() < 3 {
-        return Ok(Err(Mistake::TooFewNumbers));
-    }
-    if words.len() > 3 {
-        return Ok(Err(Mistake::TooManyNumbers));
-    }
-    change_by(heap, words[0], words[1], words[2])
+    let index = Operand::new(*index, 1).number()?;
+    let kind = Operand::new(*kind, 2).kind()?;
+    let test = Operand::new(*given, 3).test(heap, kind)?;
+    Ok(Command::Change(index, test))
 }
 
 fn command(
     heap: Global,
     name: Name,
     words: &[&[u8]],
-) -> Result<Result<Command<Vec<u8>, Vec<bool>>, Mistake>, AllocError>
-    ensures { IfOk result (λ v. commands.meaning v ≡ commands.named (Some name) (commands.held words.now)) }
+) -> Result<Command<Vec<u8>, Vec<bool>>, ParseError>
+    ensures { IfOk (reading result) (λ v. commands.meaning v ≡ commands.named (Some name) (commands.held words.now)) }
 {
     match name {
-        Name::Plain(call) => Ok(plain(call, words)),
-        Name::Indexed(call) => Ok(indexed(call, words)),
-        Name::Push(end) => Ok(push(end, words)),
-        Name::Swap => Ok(swap(words)),
-        Name::Load => load(heap, words),
-        Name::Capacity => Ok(capacity(words)),
-        Name::Retain(kind) => retain(heap, kind, words),
-        Name::PopIf(end, kind) => pop_if(heap, end, kind, words),
+        Name::Plain(call) => {
+            let [] = words else {
+                return Err(miscounted(words, 0).into());
+            };
+            Ok(Command::Plain(call))
+        }
+        Name::Indexed(call) => {
+            let index = lone(words)?.number()?;
+            Ok(Command::Indexed(call, index))
+        }
+        Name::Push(end) => {
+            let item = lone(words)?.item()?;
+            Ok(Command::Push(end, item))
+        }
+        Name::Swap => {
+            let [i, j] = words else {
+                return Err(miscounted(words, 2).into());
+            };
+            let i = Operand::new(*i, 1).number()?;
+            let j = Operand::new(*j, 2).number()?;
+            Ok(Command::Swap(i, j))
+        }
+        Name::Load => Ok(Command::Load(items(heap, words)?)),
+        // without a number it asks for the capacity, and with one it makes a ring
+        Name::Capacity if words.is_empty() => Ok(Command::Plain(Plain::Capacity)),
+        Name::Capacity => {
+            let slots = lone(words)?.number()?;
+            Ok(Command::Make(slots))
+        }
+        Name::Retain(kind) => {
+            let test = lone(words)?.test(heap, kind)?;
+            Ok(Command::Retain(test))
+        }
+        Name::PopIf(end, kind) => {
+            let test = lone(words)?.test(heap, kind)?;
+            Ok(Command::PopIf(end, test))
+        }
         Name::Change => change(heap, words),
     }
 }
@@ -214,7 +119,7 @@ fn command(
 fn is_comment(word: &[u8]) -> bool
     ensures { result ≡ commands.comment word.now }
 {
-    word.len() > 0 && word[0] == b'#'
+    word.first() == Some(&b'#')
 }
 
 // What a line with these words asks for.
@@ -222,29 +127,23 @@ fn asked(
     heap: Global,
     first: &[u8],
     others: &[&[u8]],
-) -> Result<Result<Command<Vec<u8>, Vec<bool>>, Mistake>, AllocError>
-    ensures { IfOk result (λ v. commands.meaning v ≡ commands.asked first.now (commands.held others.now)) }
+) -> Result<Command<Vec<u8>, Vec<bool>>, ParseError>
+    ensures { IfOk (reading result) (λ v. commands.meaning v ≡ commands.asked first.now (commands.held others.now)) }
 {
     if is_comment(first) {
-        return Ok(Ok(Command::Nothing));
+        return Ok(Command::Nothing);
     }
-    match name(first) {
-        Some(name) => command(heap, name, others),
-        None => Ok(Err(Mistake::UnknownCall)),
-    }
+    let name = named(first).ok_or(Mistake::UnknownCall)?;
+    command(heap, name, others)
 }
 
 // What a line asks for, or what is wrong with it.
-pub fn parse(
-    heap: Global,
-    line: &[u8],
-) -> Result<Result<Command<Vec<u8>, Vec<bool>>, Mistake>, AllocError>
-    ensures { IfOk result (λ v. commands.meaning v ≡ commands.command (text.words line.now)) }
+pub fn parse(heap: Global, line: &[u8]) -> Result<Command<Vec<u8>, Vec<bool>>, ParseError>
+    ensures { IfOk (reading result) (λ v. commands.meaning v ≡ commands.command (text.words line.now)) }
 {
     let words = split(heap, line)?;
-    let words = words.as_slice();
-    if words.len() == 0 {
-        return Ok(Ok(Command::Nothing));
+    match words.split_first() {
+        Some((first, others)) => asked(heap, first, others),
+        None => Ok(Command::Nothing),
     }
-    asked(heap, words[0], &words[1..])
 }

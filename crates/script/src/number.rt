@@ -1,24 +1,22 @@
-// The numbers of a line.
+// A number in digits.
 ghost use Rattle.std.specs.Prelude.{◌≡◌};
+ghost use Rattle.script.specs.Commands as commands;
 ghost use Rattle.script.specs.Text as text;
 
-// The number that a word of digits writes, or none where it is no such word, or its number is above `max`.
-pub(crate) fn number(word: &[u8], max: usize) -> Option<usize>
-    ensures { result ≡ text.number max word.now }
+// The number that a word of digits writes, or none where it is no such word, or its number is too large.
+#[tactic(auto, using(crate::proofs::Digits::number_over), unfolding(crate::specs::Text::number_after))]
+pub(crate) fn number(word: &[u8]) -> Option<usize>
+    ensures { result ≡ text.number commands.max_index word.now }
 {
-    if word.len() == 0 {
+    if word.is_empty() {
         return None;
     }
-    let limit = u128::from(max as u64);
-    let mut value = 0u128;
+    let mut value = 0usize;
     for c in word {
-        if *c < b'0' || *c > b'9' {
+        if !c.is_ascii_digit() {
             return None;
         }
-        value = value * 10 + u128::from(*c - b'0');
-        if value > limit {
-            return None;
-        }
+        value = value.checked_mul(10)?.checked_add(usize::from(*c - b'0'))?;
     }
-    Some(value as usize)
+    Some(value)
 }

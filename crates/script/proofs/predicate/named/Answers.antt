@@ -1,10 +1,7 @@
-use Rattle.std.proofs.Common.{refl}
+use Rattle.std.proofs.Common.{refl, ◌∙◌}
 use Rattle.script.specs.Names.{kinds}
-use Rattle.script.proofs.Lookup.{lookup_absent}
+use Rattle.script.proofs.Lookup.{lookup_no_text}
 use Rattle.script.proofs.predicate.named.Goals as goal
 
-pub returns-in_default : goal.returns-in_default
-returns-in_default c = let h = c.in_default in lookup_absent kinds c.args.word.now (h.not-at_least, (h.not-adding, (h.not-mask, tt)))
-
-pub returns-in-adding : goal.returns-in-adding
-returns-in-adding c = rw c.in-adding.is refl
+pub returns-in_err-ok : goal.returns-in_err-ok
+returns-in_err-ok c = c.from_residual.ensures ∙ lookup_no_text _ kinds c.args.word.now _ refl c.from_utf8.ensures.cases c.in_err-ok.ensures.value

@@ -1,11 +1,18 @@
-use Rattle.std.proofs.Common.{vec_items}
-use Rattle.script.proofs.Wording.{split_more, split_end}
+use Rattle.std.proofs.Common.{sym, ap, ◌∙◌, rules, tests}
+use Rattle.std.proofs.lemmas.Iterator.Consumers.{map_from_collect, YieldsList-from_filter}
+use Rattle.std.proofs.lemmas.Iterator.Splits.{YieldsList-from_slice_split}
+use Rattle.std.proofs.lemmas.Result.{IfOk-weaker}
+use Rattle.std.specs.Slice.Iter.{split_callee}
+use Rattle.script.specs.Text.{blank}
+use Rattle.script.proofs.Wording.{has_bytes, words_is}
 use Rattle.script.proofs.words.split.Goals as goal
 
-pub loop-rest-preserved-in_ok-push : goal.loop-rest-preserved-in_ok-push
-loop-rest-preserved-in_ok-push c =
-    split_more (vec_items c.loop-rest.words) _ c.next.result.0 c.loop-rest.rest.now c.next.result.1.now _
-    c.in_ok-push.ensures.items c.if-word-gt0.true c.next.ensures.words c.loop-rest.invariant
-
 pub returns : goal.returns
-returns c = split_end (vec_items c.loop-rest.words) c.loop-rest.rest.now _ c.loop-rest-test.false c.loop-rest.invariant
+returns c =
+    let line = c.args.line.now in
+    let source = c.filter.ensures.source in
+    IfOk-weaker c.collect.result _ _ (λ v e. e ∙ sym (words_is line))
+    (map_from_collect _ c.collect.ensures.ran
+    (YieldsList-from_filter _ has_bytes
+    (YieldsList-from_slice_split _ blank line (cc) (cc) (ap split_callee source ∙ c.split.ensures.closure) (λ x b q k. search (rules, tests)))
+    c.filter.ensures.closure (λ x b q k. search (rules, tests))))

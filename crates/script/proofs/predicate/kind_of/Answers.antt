@@ -1,7 +1,0 @@
-use Rattle.std.proofs.Common.{refl}
-use Rattle.script.specs.Names.{kinds}
-use Rattle.script.proofs.Lookup.{lookup_no_text}
-use Rattle.script.proofs.predicate.kind_of.Goals as goal
-
-pub returns-in-Err : goal.returns-in-Err
-returns-in-Err c = lookup_no_text kinds c.args.word.now refl c.in-Err.ensures.cases.0
