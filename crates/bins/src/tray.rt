@@ -9,5 +9,6 @@ pub struct Tray<T> {
     slots: usize,
     kept: Vec<T>,
     count: u64,
-    ghost ok: { (vec_len kept ≤ slots) × (slots ≤ vec_capacity kept) },
+    ghost within: { vec_len kept ≤ slots },
+    ghost reserved: { slots ≤ vec_capacity kept },
 }
