@@ -12,8 +12,8 @@ use Rattle.deque.specs.Sifting.{Sifted, sift, first_to_end, kept, rest}
 use Rattle.lists.proofs.Bags.{equal_bag, set_bag, exchanged_bag, front_bag, back_bag}
 use Rattle.calls.specs.Calls.{edit_refusal, refusal}
 use Rattle.calls.specs.PlainList.{Turn, edit_turn, release_turn, test_turn, retain_turn, with_predicate, turn, popped}
-use Rattle.calls.specs.declared.call.End.{End}
-use Rattle.calls.specs.declared.call.End.TheVariants.{Front, Back}
+use Rattle.places.specs.declared.End.{End}
+use Rattle.places.specs.declared.End.TheVariants.{Front, Back}
 use Rattle.calls.specs.declared.call.Edit.{Edit}
 use Rattle.calls.specs.declared.call.Edit.TheVariants.{Load, Push, Pop, Swap, SwapRemove, MakeContiguous}
 use Rattle.calls.specs.declared.call.Test.{Test}

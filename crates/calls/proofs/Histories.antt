@@ -1,5 +1,5 @@
 -- The ring and the plain list go together, request by request and over whole histories.
-use Rattle.std.proofs.Common.{◌≡◌, ℕ, ◌+◌, ◌%◌, ◌^◌, ◌<◌, ◌≤◌, true, false, cond, List, [], ◌∷◌, ◌++◌, map, length, Some, None, fold, Option, sym, refl, ap, ◌∙◌, subst, ap₂, subst₂, arith}
+use Rattle.std.proofs.Common.{◌≡◌, ℕ, ◌+◌, ◌%◌, ◌^◌, ◌<◌, ◌≤◌, true, false, cond, List, [], ◌∷◌, ◌++◌, map, length, Some, None, Ok, Err, fold, Option, sym, refl, ap, ◌∙◌, subst, ap₂, subst₂, arith}
 use mathlib.Core.Path.{subst₃}
 use mathlib.Core.List.{Perm}
 use Rattle.std.specs.List.{slice_get}
@@ -19,7 +19,8 @@ use Rattle.calls.specs.PlainList as plain_list
 use Rattle.calls.specs.RingAt.{Lies, lie, list_of, lies_after, answer_told, told, Moment, Happened, plain_of, acts}
 use Rattle.calls.specs.RingAt as ring_at
 use Rattle.calls.specs.Law.{making, Holds}
-use Rattle.calls.specs.declared.answer.Answer.TheVariants.{Unmade, Refused, Done, Item, Verdict, Number, Flag, Contiguous}
+use Rattle.calls.specs.declared.answer.Value.TheVariants.{Done, Item, Verdict, Number, Flag, Contiguous}
+use Rattle.calls.specs.declared.answer.NotDone.TheVariants.{Unmade, Refused}
 use Rattle.calls.specs.declared.call.Edit.{Edit}
 use Rattle.calls.specs.declared.call.Edit.TheVariants.{Load, Push, Pop, Swap, SwapRemove, MakeContiguous}
 use Rattle.calls.specs.declared.call.Test.{Test}
@@ -36,14 +37,14 @@ use Rattle.calls.proofs.RingLaw.{ring_law}
 
 module _ {T : Type 0} where
   idle_plainly : (a : Heard T) → idle (plainly a) ≡ idle a
-  idle_plainly (said Unmade) = refl
-  idle_plainly (said (Refused fault item)) = refl
-  idle_plainly (said Done) = refl
-  idle_plainly (said (Item item)) = refl
-  idle_plainly (said (Verdict verdict)) = refl
-  idle_plainly (said (Number number)) = refl
-  idle_plainly (said (Flag flag)) = refl
-  idle_plainly (said (Contiguous front len)) = refl
+  idle_plainly (said (Ok Done)) = refl
+  idle_plainly (said (Ok (Item item))) = refl
+  idle_plainly (said (Ok (Verdict verdict))) = refl
+  idle_plainly (said (Ok (Number number))) = refl
+  idle_plainly (said (Ok (Flag flag))) = refl
+  idle_plainly (said (Ok (Contiguous front len))) = refl
+  idle_plainly (said (Err Unmade)) = refl
+  idle_plainly (said (Err (Refused fault item))) = refl
   idle_plainly (slices front first second) = refl
   idle_plainly (walked items) = refl
 
@@ -154,12 +155,12 @@ module _ {T S P : Type 0} (takes : S → T → S) (rule : P → T → Shown P T)
       let s = plain_of takes rule m in
       let n : length (list_of m.lies) ≡ m.lies.places.len = length_contents m.lies.places m.lies.slots f.sound f.enough in
       let o = refusal q.call N q.lent m.lies.places.len in
-      let t : Together m q (ring_at.step takes rule m q) (cond (made m.phase B (length m.predicates) q.call) (turned rule N B s q.call o) (record { after = s; answer = said Unmade; flow = nothing })) =
-      elim (made m.phase B (length m.predicates) q.call) as (λ b. Together m q (cond b (acts takes rule m q.call o) (record { after = m; answer = said Unmade })) (cond b (turned rule N B s q.call o) (record { after = s; answer = said Unmade; flow = nothing }))) [
+      let t : Together m q (ring_at.step takes rule m q) (cond (made m.phase B (length m.predicates) q.call) (turned rule N B s q.call o) (record { after = s; answer = said (Err Unmade); flow = nothing })) =
+      elim (made m.phase B (length m.predicates) q.call) as (λ b. Together m q (cond b (acts takes rule m q.call o) (record { after = m; answer = said (Err Unmade) })) (cond b (turned rule N B s q.call o) (record { after = s; answer = said (Err Unmade); flow = nothing }))) [
         | true ↦ acting m q f o (λ e. e)
-        | false ↦ at_rest m q (said Unmade) refl f
+        | false ↦ at_rest m q (said (Err Unmade)) refl f
       ] in
-      subst (λ k. Together m q (ring_at.step takes rule m q) (cond (made m.phase B (length m.predicates) q.call) (turned rule N B s q.call (refusal q.call N q.lent k)) (record { after = s; answer = said Unmade; flow = nothing }))) (sym n) t
+      subst (λ k. Together m q (ring_at.step takes rule m q) (cond (made m.phase B (length m.predicates) q.call) (turned rule N B s q.call (refusal q.call N q.lent k)) (record { after = s; answer = said (Err Unmade); flow = nothing }))) (sym n) t
 
   pub step_fit : (m : Moment T S P) (q : Request T) → Fit m.lies → Fit (ring_at.step takes rule m q).after.lies
   step_fit m q f = (together m q f).fit

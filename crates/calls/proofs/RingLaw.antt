@@ -24,8 +24,8 @@ use Rattle.calls.specs.PlainList.{Turn, edit_turn, release_turn, test_turn, reta
 use Rattle.calls.specs.PlainList as plain_list
 use Rattle.calls.specs.RingAt.{Lies, lie, list_of, pops, releases, edits, tests, retains, lies_after}
 use Rattle.calls.specs.RingAt as ring_at
-use Rattle.calls.specs.declared.call.End.{End}
-use Rattle.calls.specs.declared.call.End.TheVariants.{Front, Back}
+use Rattle.places.specs.declared.End.{End}
+use Rattle.places.specs.declared.End.TheVariants.{Front, Back}
 use Rattle.calls.specs.declared.call.Edit.{Edit}
 use Rattle.calls.specs.declared.call.Edit.TheVariants.{Load, Push, Pop, Swap, SwapRemove, MakeContiguous}
 use Rattle.calls.specs.declared.call.Test.{Test}

@@ -1,5 +1,5 @@
 -- The ring: its places and slots, with bins and predicates beside it, and where each call leaves them.
-use Rattle.std.specs.Prelude.{ℕ, ◌-◌, cond, List, [], ◌∷◌, length, Some, None, fold, Option}
+use Rattle.std.specs.Prelude.{ℕ, ◌-◌, cond, List, [], ◌∷◌, length, Some, None, Ok, Err, fold, Option}
 use Rattle.std.specs.List.{slice_get}
 use Rattle.fault.specs.declared.Fault.{Fault}
 use Rattle.fault.specs.Refusing.{unless}
@@ -11,12 +11,13 @@ use Rattle.deque.specs.Plain as plain
 use Rattle.deque.specs.Moves as moves
 use Rattle.deque.specs.Writes as writes
 use Rattle.calls.specs.Calls.{Phase, bin_of, predicate_of, next_phase, refusal, brings, made}
-use Rattle.calls.specs.Answers.{Heard, said, slices, walked, unless_refused}
+use Rattle.calls.specs.Answers.{Answer, Heard, said, slices, walked, unless_refused}
 use Rattle.calls.specs.PlainList.{Plain, Turn, turn, next_state, moved_at}
-use Rattle.calls.specs.declared.answer.Answer.{Answer}
-use Rattle.calls.specs.declared.answer.Answer.TheVariants.{Unmade, Refused, Done, Item, Verdict, Number, Flag, Contiguous}
-use Rattle.calls.specs.declared.call.End.{End}
-use Rattle.calls.specs.declared.call.End.TheVariants.{Front, Back}
+use Rattle.calls.specs.declared.answer.Value.{Value}
+use Rattle.calls.specs.declared.answer.Value.TheVariants.{Done, Item, Verdict, Number, Flag, Contiguous}
+use Rattle.calls.specs.declared.answer.NotDone.TheVariants.{Unmade}
+use Rattle.places.specs.declared.End.{End}
+use Rattle.places.specs.declared.End.TheVariants.{Front, Back}
 use Rattle.calls.specs.declared.call.Edit.{Edit}
 use Rattle.calls.specs.declared.call.Edit.TheVariants.{Load, Push, Pop, Swap, SwapRemove, MakeContiguous}
 use Rattle.calls.specs.declared.call.Test.{Test}
@@ -65,15 +66,17 @@ module _ {T : Type 0} where
   edits MakeContiguous p xs = lie (moves.make_contiguous p) (writes.make_contiguous p xs)
 
   -- what the ring answers where the plain list does not know: the new front, and the slots in which two slices lie
+  abbrev pub value_told : Places → Value T → Value T
+  value_told p Done = Done
+  value_told p (Item item) = Item item
+  value_told p (Verdict verdict) = Verdict verdict
+  value_told p (Number number) = Number number
+  value_told p (Flag flag) = Flag flag
+  value_told p (Contiguous front len) = Contiguous (new_front p) len
+
   abbrev pub answer_told : Places → Answer T → Answer T
-  answer_told p Unmade = Unmade
-  answer_told p (Refused fault item) = Refused fault item
-  answer_told p Done = Done
-  answer_told p (Item item) = Item item
-  answer_told p (Verdict verdict) = Verdict verdict
-  answer_told p (Number number) = Number number
-  answer_told p (Flag flag) = Flag flag
-  answer_told p (Contiguous front len) = Contiguous (new_front p) len
+  answer_told p (Ok value) = Ok (value_told p value)
+  answer_told p (Err not_done) = Err not_done
 
   abbrev pub told : Places → List T → Heard T → Heard T
   told p xs (said answer) = said (answer_told p answer)
@@ -151,7 +154,7 @@ module _ {T S P : Type 0} (takes : S → T → S) (rule : P → T → Shown P T)
   step m q =
       cond (made m.phase (length m.bins) (length m.predicates) q.call)
       (acts m q.call (refusal q.call m.lies.places.capacity q.lent m.lies.places.len))
-      (record { after = m; answer = said Unmade })
+      (record { after = m; answer = said (Err Unmade) })
 
   -- a list of requests, one after another
   abbrev pub run : Moment T S P → List (Request T) → Moment T S P
