@@ -1,11 +1,11 @@
 -- One turn of a loop: what is left to do leads to where all of it leads.
-use Rattle.std.proofs.Common.{◌≡◌, ℕ, ◌+◌, ◌<◌, ◌≤◌, List, ◌∷◌, length, get_or, drop, fold, Option, sym, ap, ◌∙◌, ap₂}
+use Rattle.std.proofs.Common.{◌≡◌, ℕ, ◌+◌, ◌<◌, ◌≤◌, List, ◌∷◌, Ok, length, get_or, drop, fold, Option, sym, ap, ◌∙◌, ap₂}
 use Rattle.std.proofs.lemmas.List.{at_drop_more, at_drop_all}
 use Rattle.calls.specs.Answers.{Heard, said, walked}
 use Rattle.calls.specs.PlainList.{popped, walk}
 use Rattle.calls.specs.RingAt.{Moment, step, run, answers}
-use Rattle.calls.specs.declared.answer.Answer.TheVariants.{Item}
-use Rattle.calls.specs.declared.call.End.{End}
+use Rattle.calls.specs.declared.answer.Value.TheVariants.{Item}
+use Rattle.places.specs.declared.End.{End}
 use Rattle.calls.specs.declared.call.Request.{Request}
 use Rattle.calls.proofs.PlainLaws.{folded_append}
 use Rattle.predicates.specs.Showing.{Shown}
@@ -17,13 +17,13 @@ module _ {T H : Type 0} (hears : H → Heard T → H) (ends : List End) (i : ℕ
   walks_on es h l = fold hears h (heard (walked (walk es l)))
 
   pub walk_more : (d : End) (h h' all : H) (l l' : List T) (x : Option T) → i < length ends
-      → x ≡ (popped (get_or ends i d) l).answer → l' ≡ (popped (get_or ends i d) l).list → h' ≡ hears h (said (Item x))
+      → x ≡ (popped (get_or ends i d) l).answer → l' ≡ (popped (get_or ends i d) l).list → h' ≡ hears h (said (Ok (Item x)))
       → walks_on (drop i ends) h l ≡ all → walks_on (drop (i + 1) ends) h' l' ≡ all
   walk_more d h h' all l l' x lt item list told so_far =
       let later : List End = drop (i + 1) ends in
       ap (λ w. walks_on later w l') told
-      ∙ ap (λ m. walks_on later (hears h (said (Item x))) m) list
-      ∙ ap (λ o. walks_on later (hears h (said (Item o))) (popped (get_or ends i d) l).list) item
+      ∙ ap (λ m. walks_on later (hears h (said (Ok (Item x)))) m) list
+      ∙ ap (λ o. walks_on later (hears h (said (Ok (Item o)))) (popped (get_or ends i d) l).list) item
       ∙ sym (at_drop_more (λ es. walks_on es h l) ends i d lt)
       ∙ so_far
 

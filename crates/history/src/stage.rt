@@ -1,8 +1,105 @@
-// What a history is at.
+// What a history is at, and how that ends.
+ghost use Rattle.std.specs.Prelude.{◌≡◌, length, map, fold};
+ghost use Rattle.fault.specs.Refusing.{unless, answer_or_return};
+ghost use Rattle.calls.specs.Answers.{said};
+ghost use Rattle.calls.specs.RingAt.{lie};
+ghost use Rattle.calls.specs.declared.call.Call.TheVariants as call_is;
+ghost use Rattle.history.specs.Standing.{phase_of, places_of, left_in, end_refusal, ended_or_kept};
+ghost use Rattle.history.specs.Calling.{called_without_predicates};
+
+use bins::Bin;
+use calls::{Answer, NotDone, Value};
 use deque::{CloseToken, Deque, IntoIter};
+use fault::Returned;
+use places::Places;
 
 pub enum Stage {
     Ring(Deque, CloseToken),
     Drain(IntoIter, CloseToken),
     Closed { capacity: usize },
+}
+
+impl Stage {
+    pub(crate) fn places(&self) -> Places
+        ensures { result ≡ places_of self.now }
+    {
+        match self {
+            Stage::Ring(ring, _) => ring.places(),
+            Stage::Drain(drain, _) => drain.places(),
+            Stage::Closed { capacity } => Places {
+                capacity: *capacity,
+                front: 0,
+                len: 0,
+            },
+        }
+    }
+
+    fn end_or_return<T: Copy, B: Bin<T>>(
+        self,
+        slots: &[T],
+        bin: &mut B,
+    ) -> Result<usize, Returned<Stage>>
+        ensures result { result ≡ answer_or_return (end_refusal self (length slots.now)) self (length (left_in self slots.now)) }
+        ensures bin { let s = B.state bin.old in B.state bin.new ≡ unless (end_refusal self (length slots.now)) s (fold B.rule s (left_in self slots.now)) }
+    {
+        match self {
+            Stage::Ring(ring, token) => ring.close(token, slots, bin).map_err(|returned| {
+                let Returned {
+                    fault,
+                    given: (ring, token),
+                } = returned;
+                Returned {
+                    fault,
+                    given: Stage::Ring(ring, token),
+                }
+            }),
+            Stage::Drain(drain, token) => drain.finish(token, slots, bin).map_err(|returned| {
+                let Returned {
+                    fault,
+                    given: (drain, token),
+                } = returned;
+                Returned {
+                    fault,
+                    given: Stage::Drain(drain, token),
+                }
+            }),
+            Stage::Closed { capacity: _ } => Ok(0),
+        }
+    }
+
+    // Closes the ring or finishes the drain, if it is open: bins what is left, in list order, and answers how many. A refusal gives all back.
+    pub fn end<T: Copy, B: Bin<T>>(self, slots: &[T], bin: &mut B) -> Result<usize, Stage>
+        ensures result { result ≡ ended_or_kept (end_refusal self (length slots.now)) self (length (left_in self slots.now)) }
+        ensures bin { let s = B.state bin.old in B.state bin.new ≡ unless (end_refusal self (length slots.now)) s (fold B.rule s (left_in self slots.now)) }
+    {
+        self.end_or_return(slots, bin)
+            .map_err(|returned| returned.given)
+    }
+
+    // The call that ends it, with the bin of this number.
+    #[tactic(auto, using(crate::proofs::Lookups::lookups))]
+    pub(crate) fn close<T: Copy, B: Bin<T>>(
+        self,
+        bin: usize,
+        slots: &[T],
+        bins: &mut [B],
+    ) -> (Stage, Answer<T>)
+        ensures phase { let h = called_without_predicates B.rule (phase_of self) (places_of self) slots.now (map B.state bins.old) (call_is.Close bin) in phase_of result.0 ≡ h.after.phase }
+        ensures lies { let h = called_without_predicates B.rule (phase_of self) (places_of self) slots.now (map B.state bins.old) (call_is.Close bin) in lie (places_of result.0) slots.now ≡ h.after.lies }
+        ensures bins { let h = called_without_predicates B.rule (phase_of self) (places_of self) slots.now (map B.state bins.old) (call_is.Close bin) in map B.state bins.new ≡ h.after.bins }
+        ensures answer { let h = called_without_predicates B.rule (phase_of self) (places_of self) slots.now (map B.state bins.old) (call_is.Close bin) in said result.1 ≡ h.answer }
+    {
+        let closed = matches!(self, Stage::Closed { .. });
+        if closed || bin >= bins.len() {
+            return (self, Err(NotDone::Unmade));
+        }
+        let capacity = self.places().capacity();
+        match self.end_or_return(slots, &mut bins[bin]) {
+            Ok(binned) => (Stage::Closed { capacity }, Ok(Value::Number(binned))),
+            Err(returned) => {
+                let Returned { fault, given } = returned;
+                (given, Err(NotDone::from(fault)))
+            }
+        }
+    }
 }
