@@ -11,25 +11,6 @@ use Rattle.calls.proofs.PlainLaws.{folded_append}
 use Rattle.predicates.specs.Showing.{Shown}
 use Rattle.history.specs.Answering.{heard, all_heard}
 
--- a walk, told step by step
-module _ {T H : Type 0} (hears : H → Heard T → H) (ends : List End) (i : ℕ) where
-  abbrev pub walks_on : List End → H → List T → H
-  walks_on es h l = fold hears h (heard (walked (walk es l)))
-
-  pub walk_more : (d : End) (h h' all : H) (l l' : List T) (x : Option T) → i < length ends
-      → x ≡ (popped (get_or ends i d) l).answer → l' ≡ (popped (get_or ends i d) l).list → h' ≡ hears h (said (Ok (Item x)))
-      → walks_on (drop i ends) h l ≡ all → walks_on (drop (i + 1) ends) h' l' ≡ all
-  walk_more d h h' all l l' x lt item list told so_far =
-      let later : List End = drop (i + 1) ends in
-      ap (λ w. walks_on later w l') told
-      ∙ ap (λ m. walks_on later (hears h (said (Ok (Item x)))) m) list
-      ∙ ap (λ o. walks_on later (hears h (said (Ok (Item o)))) (popped (get_or ends i d) l).list) item
-      ∙ sym (at_drop_more (λ es. walks_on es h l) ends i d lt)
-      ∙ so_far
-
-  pub walk_all : (h all : H) (l : List T) → length ends ≤ i → walks_on (drop i ends) h l ≡ all → h ≡ all
-  walk_all h all l le so_far = sym (at_drop_all (λ es. walks_on es h l) ends i le) ∙ so_far
-
 -- requests, put one after another and told
 module _ {T S P H : Type 0} (takes : S → T → S) (rule : P → T → Shown P T) (hears : H → Heard T → H) where
   abbrev pub Leads : Moment T S P → H → List (Request T) → Moment T S P → H → Type 0
