@@ -47,46 +47,6 @@ fn into_iter<T: Copy>(ring: Deque, token: CloseToken, slots: &[T]) -> (Stage, An
     }
 }
 
-fn call_ring<T: Copy, B: Bin<T>, P: Predicate<T>, L: Listener<T>>(
-    ring: Deque,
-    token: CloseToken,
-    call: &Call<'_, T>,
-    slots: &mut [T],
-    bins: &mut [B],
-    predicates: &mut [P],
-    listener: &mut L,
-) -> Stage
-    ensures moment { let h = called_at B.Bin P.Predicate (StageIs.Ring ring token) slots.old bins.old predicates.old call.now in moment_of B.Bin P.Predicate result slots.new bins.new predicates.new ≡ h.after }
-    ensures told { let h = called_at B.Bin P.Predicate (StageIs.Ring ring token) slots.old bins.old predicates.old call.now in L.Listener.state listener.new ≡ fold L.Listener.rule (L.Listener.state listener.old) (heard h.answer) }
-{
-    let mut ring = ring;
-    match call {
-        Call::Edit(what) => listener.hear(edit(&mut ring, what, slots)),
-        Call::Test {
-            test: what,
-            predicate,
-        } => listener.hear(test(&mut ring, *what, *predicate, slots, predicates)),
-        Call::Release { release: what, bin } => listener.hear(release(
-            &mut ring, *what, *bin, slots, bins,
-        )),
-        Call::Retain { predicate, bin } => listener.hear(retain(
-            &mut ring, *predicate, *bin, slots, predicates, bins,
-        )),
-        Call::Read(what) => read(&ring, what, slots, listener),
-        Call::IntoIter => {
-            let (stage, answer) = into_iter(ring, token, slots);
-            listener.hear(answer);
-            return stage;
-        }
-        Call::Close { bin } => {
-            let (stage, answer) = Stage::Ring(ring, token).close(*bin, slots, bins);
-            listener.hear(answer);
-            return stage;
-        }
-    }
-    Stage::Ring(ring, token)
-}
-
 // Makes a call of what the history is at, on the slots that it is lent.
 fn call<T: Copy, B: Bin<T>, P: Predicate<T>, L: Listener<T>>(
     stage: Stage,
@@ -99,27 +59,47 @@ fn call<T: Copy, B: Bin<T>, P: Predicate<T>, L: Listener<T>>(
     ensures moment { let h = called_at B.Bin P.Predicate stage slots.old bins.old predicates.old call.now in moment_of B.Bin P.Predicate result slots.new bins.new predicates.new ≡ h.after }
     ensures told { let h = called_at B.Bin P.Predicate stage slots.old bins.old predicates.old call.now in L.Listener.state listener.new ≡ fold L.Listener.rule (L.Listener.state listener.old) (heard h.answer) }
 {
-    match stage {
-        Stage::Ring(ring, token) => call_ring(ring, token, call, slots, bins, predicates, listener),
-        Stage::Drain(drain, token) => {
-            let mut drain = drain;
-            match call {
-                Call::Edit(Edit::Pop(end)) => listener.hear(next(&mut drain, slots, *end)),
-                Call::Read(Read::Len) => listener.hear(len(&drain, slots)),
-                Call::Close { bin } => {
-                    let (stage, answer) = Stage::Drain(drain, token).close(*bin, slots, bins);
-                    listener.hear(answer);
-                    return stage;
-                }
-                _ => listener.hear(Err(NotDone::Unmade)),
-            }
-            Stage::Drain(drain, token)
+    let (stage, answer) = match (stage, call) {
+        (stage, Call::Close { bin }) => stage.close(*bin, slots, bins),
+        (Stage::Ring(ring, token), Call::IntoIter) => into_iter(ring, token, slots),
+        (Stage::Ring(ring, token), Call::Read(what)) => {
+            read(&ring, what, slots, listener);
+            return Stage::Ring(ring, token);
         }
-        Stage::Closed { capacity } => {
-            listener.hear(Err(NotDone::Unmade));
-            Stage::Closed { capacity }
+        (Stage::Ring(mut ring, token), Call::Edit(what)) => {
+            let answer = edit(&mut ring, what, slots);
+            (Stage::Ring(ring, token), answer)
         }
-    }
+        (
+            Stage::Ring(mut ring, token),
+            Call::Test {
+                test: what,
+                predicate,
+            },
+        ) => {
+            let answer = test(&mut ring, *what, *predicate, slots, predicates);
+            (Stage::Ring(ring, token), answer)
+        }
+        (Stage::Ring(mut ring, token), Call::Release { release: what, bin }) => {
+            let answer = release(&mut ring, *what, *bin, slots, bins);
+            (Stage::Ring(ring, token), answer)
+        }
+        (Stage::Ring(mut ring, token), Call::Retain { predicate, bin }) => {
+            let answer = retain(&mut ring, *predicate, *bin, slots, predicates, bins);
+            (Stage::Ring(ring, token), answer)
+        }
+        (Stage::Drain(mut drain, token), Call::Edit(Edit::Pop(end))) => {
+            let answer = next(&mut drain, slots, *end);
+            (Stage::Drain(drain, token), answer)
+        }
+        (Stage::Drain(drain, token), Call::Read(Read::Len)) => {
+            let answer = len(&drain, slots);
+            (Stage::Drain(drain, token), answer)
+        }
+        (stage, _) => (stage, Err(NotDone::Unmade)),
+    };
+    listener.hear(answer);
+    stage
 }
 
 // Puts one request.
