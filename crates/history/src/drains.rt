@@ -1,21 +1,32 @@
-// The calls of a drain.
-ghost use Rattle.std.specs.Prelude.{◌≡◌, None};
-ghost use Rattle.fault.specs.Refusing.{unless};
-ghost use Rattle.deque.specs.Ring.{contents, at};
-ghost use Rattle.deque.specs.Refusals as refusal;
-ghost use Rattle.calls.specs.Answers.{said, unless_refused};
-ghost use Rattle.calls.specs.PlainList.{edit_turn, reading};
-ghost use Rattle.calls.specs.RingAt.{pops};
+// The call that moves a ring into a drain, and the calls of a drain.
+ghost use Rattle.std.specs.Prelude.{◌≡◌, []};
+ghost use Rattle.calls.specs.Calls.{ring as at_ring, drain as at_drain};
+ghost use Rattle.calls.specs.declared.call.Call.TheVariants as call_is;
 ghost use Rattle.calls.specs.declared.call.Edit.TheVariants as edit_is;
 ghost use Rattle.calls.specs.declared.call.Read.TheVariants as read_is;
+ghost use Rattle.history.specs.Calling.{left_with, called_without_both};
+ghost use Rattle.history.specs.Standing.{phase_of, places_of};
 
-use calls::{Answer, End, Value};
-use deque::IntoIter;
+use crate::stage::Stage;
+use calls::{Answer, End, NotDone, Value};
+use deque::{CloseToken, Deque, IntoIter};
+use fault::Returned;
+
+pub(crate) fn into_iter<T: Copy>(ring: Deque, token: CloseToken, slots: &[T]) -> (Stage, Answer<T>)
+    ensures { left_with (phase_of result.0) (places_of result.0) slots.now [] [] result.1 ≡ called_without_both at_ring ring.places slots.now call_is.IntoIter }
+{
+    match ring.into_iter(slots) {
+        Ok(drain) => (Stage::Drain(drain, token), Ok(Value::Done)),
+        Err(returned) => {
+            let Returned { fault, given } = returned;
+            (Stage::Ring(given, token), Err(NotDone::from(fault)))
+        }
+    }
+}
 
 // The next item from an end.
 pub(crate) fn next<T: Copy>(drain: &mut IntoIter, slots: &[T], end: End) -> Answer<T>
-    ensures places { let p = drain.old.ring.places in let xs = slots.now in drain.new.ring.places ≡ unless (at p xs refusal.slots) p (pops end p) }
-    ensures answer { let p = drain.old.ring.places in let xs = slots.now in said result ≡ unless_refused (at p xs refusal.slots) None (edit_turn (edit_is.Pop end) (contents p xs)).answer }
+    ensures { left_with at_drain drain.new.ring.places slots.now [] [] result ≡ called_without_both at_drain drain.old.ring.places slots.now (call_is.Edit (edit_is.Pop end)) }
 {
     match end {
         End::Front => Ok(Value::Item(drain.next(slots)?)),
@@ -24,7 +35,7 @@ pub(crate) fn next<T: Copy>(drain: &mut IntoIter, slots: &[T], end: End) -> Answ
 }
 
 pub(crate) fn len<T: Copy>(drain: &IntoIter, slots: &[T]) -> Answer<T>
-    ensures { let p = drain.now.ring.places in let xs = slots.now in said result ≡ unless_refused (at p xs refusal.slots) None (reading p.capacity read_is.Len (contents p xs)) }
+    ensures { left_with at_drain drain.now.ring.places slots.now [] [] result ≡ called_without_both at_drain drain.now.ring.places slots.now (call_is.Read read_is.Len) }
 {
     Ok(Value::Number(drain.len(slots)?))
 }

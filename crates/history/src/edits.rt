@@ -1,13 +1,8 @@
 // The calls that edit a ring.
-ghost use Rattle.std.specs.Prelude.{◌≡◌, map, length};
-ghost use Rattle.fault.specs.Refusing.{unless};
-ghost use Rattle.deque.specs.Ring.{contents, at};
-ghost use Rattle.calls.specs.Calls.{ring as at_ring, edit_refusal, edit_brings};
-ghost use Rattle.calls.specs.Answers.{said, unless_refused};
-ghost use Rattle.calls.specs.PlainList.{edit_turn};
-ghost use Rattle.calls.specs.RingAt.{lie, edits, told};
+ghost use Rattle.std.specs.Prelude.{◌≡◌, [], map};
+ghost use Rattle.calls.specs.Calls.{ring as at_ring};
 ghost use Rattle.calls.specs.declared.call.Call.TheVariants as call_is;
-ghost use Rattle.history.specs.Calling.{called, called_without_bins, called_without_predicates};
+ghost use Rattle.history.specs.Calling.{left_with, called, called_without_bins, called_without_predicates, called_without_both};
 
 use bins::Bin;
 use calls::{Answer, Edit, End, NotDone, Release, Test, Value};
@@ -15,8 +10,7 @@ use deque::Deque;
 use predicates::Predicate;
 
 pub(crate) fn edit<T: Copy>(ring: &mut Deque, edit: &Edit<'_, T>, slots: &mut [T]) -> Answer<T>
-    ensures lies { let p = ring.old.places in let xs = slots.old in let e = edit.now in lie ring.new.places slots.new ≡ unless (at p xs (edit_refusal e)) (lie p xs) (edits e p xs) }
-    ensures answer { let p = ring.old.places in let xs = slots.old in let e = edit.now in said result ≡ unless_refused (at p xs (edit_refusal e)) (edit_brings e) (told p xs (edit_turn e (contents p xs)).answer) }
+    ensures { left_with at_ring ring.new.places slots.new [] [] result ≡ called_without_both at_ring ring.old.places slots.old (call_is.Edit edit.now) }
 {
     match edit {
         Edit::Load(items) => {
@@ -58,9 +52,7 @@ pub(crate) fn test<T: Copy, P: Predicate<T>>(
     slots: &mut [T],
     predicates: &mut [P],
 ) -> Answer<T>
-    ensures lies { let h = called_without_bins P.rule at_ring ring.old.places slots.old (map P.state predicates.old) (call_is.Test test predicate) in lie ring.new.places slots.new ≡ h.after.lies }
-    ensures predicates { let h = called_without_bins P.rule at_ring ring.old.places slots.old (map P.state predicates.old) (call_is.Test test predicate) in map P.state predicates.new ≡ h.after.predicates }
-    ensures answer { let h = called_without_bins P.rule at_ring ring.old.places slots.old (map P.state predicates.old) (call_is.Test test predicate) in said result ≡ h.answer }
+    ensures { left_with at_ring ring.new.places slots.new [] (map P.state predicates.new) result ≡ called_without_bins P.rule at_ring ring.old.places slots.old (map P.state predicates.old) (call_is.Test test predicate) }
 {
     if predicate >= predicates.len() {
         return Err(NotDone::Unmade);
@@ -81,9 +73,7 @@ pub(crate) fn release<T: Copy, B: Bin<T>>(
     slots: &[T],
     bins: &mut [B],
 ) -> Answer<T>
-    ensures lies { let h = called_without_predicates B.rule at_ring ring.old.places slots.now (map B.state bins.old) (call_is.Release release bin) in lie ring.new.places slots.now ≡ h.after.lies }
-    ensures bins { let h = called_without_predicates B.rule at_ring ring.old.places slots.now (map B.state bins.old) (call_is.Release release bin) in map B.state bins.new ≡ h.after.bins }
-    ensures answer { let h = called_without_predicates B.rule at_ring ring.old.places slots.now (map B.state bins.old) (call_is.Release release bin) in said result ≡ h.answer }
+    ensures { left_with at_ring ring.new.places slots.now (map B.state bins.new) [] result ≡ called_without_predicates B.rule at_ring ring.old.places slots.now (map B.state bins.old) (call_is.Release release bin) }
 {
     if bin >= bins.len() {
         return Err(NotDone::Unmade);
@@ -104,10 +94,7 @@ pub(crate) fn retain<T: Copy, P: Predicate<T>, B: Bin<T>>(
     predicates: &mut [P],
     bins: &mut [B],
 ) -> Answer<T>
-    ensures lies { let h = called B.Bin.rule P.Predicate.rule at_ring ring.old.places slots.old (map B.Bin.state bins.old) (map P.Predicate.state predicates.old) (call_is.Retain predicate bin) in lie ring.new.places slots.new ≡ h.after.lies }
-    ensures bins { let h = called B.Bin.rule P.Predicate.rule at_ring ring.old.places slots.old (map B.Bin.state bins.old) (map P.Predicate.state predicates.old) (call_is.Retain predicate bin) in map B.Bin.state bins.new ≡ h.after.bins }
-    ensures predicates { let h = called B.Bin.rule P.Predicate.rule at_ring ring.old.places slots.old (map B.Bin.state bins.old) (map P.Predicate.state predicates.old) (call_is.Retain predicate bin) in map P.Predicate.state predicates.new ≡ h.after.predicates }
-    ensures answer { let h = called B.Bin.rule P.Predicate.rule at_ring ring.old.places slots.old (map B.Bin.state bins.old) (map P.Predicate.state predicates.old) (call_is.Retain predicate bin) in said result ≡ h.answer }
+    ensures { left_with at_ring ring.new.places slots.new (map B.Bin.state bins.new) (map P.Predicate.state predicates.new) result ≡ called B.Bin.rule P.Predicate.rule at_ring ring.old.places slots.old (map B.Bin.state bins.old) (map P.Predicate.state predicates.old) (call_is.Retain predicate bin) }
 {
     if bin >= bins.len() || predicate >= predicates.len() {
         return Err(NotDone::Unmade);

@@ -1,28 +1,19 @@
 // Any list of requests, put to a ring one after another.
-ghost use Rattle.std.specs.Prelude.{◌≡◌, ℕ, ◌≤◌, List, map, length, fold, None};
-ghost use Rattle.fault.specs.Refusing.{unless};
-ghost use Rattle.deque.specs.Ring.{contents, at};
-ghost use Rattle.deque.specs.Refusals as refusal;
+ghost use Rattle.std.specs.Prelude.{◌≡◌, ◌≤◌, map, length, fold};
 ghost use Rattle.calls.specs.Law as law;
-ghost use Rattle.calls.specs.Calls as phase;
-ghost use Rattle.calls.specs.Answers.{said, unless_refused};
-ghost use Rattle.calls.specs.PlainList.{turn};
 ghost use Rattle.calls.specs.RingAt.{step};
-ghost use Rattle.calls.specs.declared.answer.Value.TheVariants as value_is;
 ghost use Rattle.history.specs.Answering.{heard, all_heard};
 ghost use Rattle.history.specs.Calling.{called_at};
-ghost use Rattle.history.specs.Standing.{phase_of, places_of, moment_of, lent_end};
-ghost use Rattle.history.specs.declared.stage.Stage.TheVariants as StageIs;
+ghost use Rattle.history.specs.Standing.{places_of, moment_of, lent_end};
 
-use crate::drains::{len, next};
+use crate::drains::{into_iter, len, next};
 use crate::edits::{edit, release, retain, test};
 use crate::listener::Listener;
 use crate::reads::read;
 use crate::stage::Stage;
 use bins::Bin;
-use calls::{Answer, Call, Edit, NotDone, Read, Request, Value};
-use deque::{CloseToken, Deque, IntoIter};
-use fault::Returned;
+use calls::{Call, Edit, NotDone, Read, Request};
+use deque::Deque;
 use predicates::Predicate;
 
 // How many of the slots a call is lent: as many as it asks for where those are fewer than the capacity, else all.
@@ -31,20 +22,6 @@ fn lent_part(lent: usize, capacity: usize, all: usize) -> usize
     ensures within { result ≤ all }
 {
     if lent < capacity { lent.min(all) } else { all }
-}
-
-fn into_iter<T: Copy>(ring: Deque, token: CloseToken, slots: &[T]) -> (Stage, Answer<T>)
-    ensures phase { phase_of result.0 ≡ unless (at ring.places slots.now refusal.slots) phase.ring phase.drain }
-    ensures places { places_of result.0 ≡ ring.places }
-    ensures answer { said result.1 ≡ unless_refused (at ring.places slots.now refusal.slots) None (said (Ok value_is.Done)) }
-{
-    match ring.into_iter(slots) {
-        Ok(drain) => (Stage::Drain(drain, token), Ok(Value::Done)),
-        Err(returned) => {
-            let Returned { fault, given } = returned;
-            (Stage::Ring(given, token), Err(NotDone::from(fault)))
-        }
-    }
 }
 
 // Makes a call of what the history is at, on the slots that it is lent.

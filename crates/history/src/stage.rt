@@ -1,11 +1,9 @@
 // What a history is at, and how that ends.
-ghost use Rattle.std.specs.Prelude.{◌≡◌, length, map, fold};
+ghost use Rattle.std.specs.Prelude.{◌≡◌, [], length, map, fold};
 ghost use Rattle.fault.specs.Refusing.{unless, answer_or_return};
-ghost use Rattle.calls.specs.Answers.{said};
-ghost use Rattle.calls.specs.RingAt.{lie};
 ghost use Rattle.calls.specs.declared.call.Call.TheVariants as call_is;
 ghost use Rattle.history.specs.Standing.{phase_of, places_of, left_in, end_refusal, ended_or_kept};
-ghost use Rattle.history.specs.Calling.{called_without_predicates};
+ghost use Rattle.history.specs.Calling.{left_with, called_without_predicates};
 
 use bins::Bin;
 use calls::{Answer, NotDone, Value};
@@ -84,10 +82,7 @@ impl Stage {
         slots: &[T],
         bins: &mut [B],
     ) -> (Stage, Answer<T>)
-        ensures phase { let h = called_without_predicates B.rule (phase_of self) (places_of self) slots.now (map B.state bins.old) (call_is.Close bin) in phase_of result.0 ≡ h.after.phase }
-        ensures lies { let h = called_without_predicates B.rule (phase_of self) (places_of self) slots.now (map B.state bins.old) (call_is.Close bin) in lie (places_of result.0) slots.now ≡ h.after.lies }
-        ensures bins { let h = called_without_predicates B.rule (phase_of self) (places_of self) slots.now (map B.state bins.old) (call_is.Close bin) in map B.state bins.new ≡ h.after.bins }
-        ensures answer { let h = called_without_predicates B.rule (phase_of self) (places_of self) slots.now (map B.state bins.old) (call_is.Close bin) in said result.1 ≡ h.answer }
+        ensures { left_with (phase_of result.0) (places_of result.0) slots.now (map B.state bins.new) [] result.1 ≡ called_without_predicates B.rule (phase_of self) (places_of self) slots.now (map B.state bins.old) (call_is.Close bin) }
     {
         let closed = matches!(self, Stage::Closed { .. });
         if closed || bin >= bins.len() {
