@@ -1,18 +1,19 @@
 -- A request that is lent a part of the slots: fewer than the capacity, which is refused, or all of them.
-use Rattle.std.proofs.Common.{◌≡◌, ℕ, ◌≤◌, min, true, false, cond, nat_lt, List, [], ◌++◌, length, take, drop, Some, Err, Option, sym, refl, ap, ◌∙◌, inl, inr, ◌⊎◌, arith}
+use Rattle.std.proofs.Common.{◌≡◌, ℕ, ◌≤◌, min, true, false, cond, nat_lt, List, [], ◌++◌, length, take, drop, fold, Some, Err, Option, sym, ap, ◌∙◌, inl, inr, arith}
 use Rattle.std.proofs.lemmas.List.{append-nil, take_all, drop_all, length-take-le, take-append-drop}
 use Rattle.std.proofs.lemmas.Bool.{cases_lt, lt-ltb, le-ltb}
 use Rattle.fault.specs.declared.Fault.{Fault}
 use Rattle.fault.specs.declared.Fault.TheVariants.{TooFewSlots}
 use Rattle.predicates.specs.Showing.{Shown}
 use Rattle.calls.specs.Calls.{refusal, made}
-use Rattle.calls.specs.Answers.{said}
+use Rattle.calls.specs.Answers.{Heard, said}
 use Rattle.calls.specs.declared.answer.NotDone.TheVariants.{Unmade}
 use Rattle.calls.specs.RingAt.{Moment, Happened, lie, acts, step}
 use Rattle.calls.specs.declared.call.Edit.TheVariants.{Load, Push, Pop, Swap, SwapRemove, MakeContiguous}
 use Rattle.calls.specs.declared.call.Call.{Call}
 use Rattle.calls.specs.declared.call.Call.TheVariants.{Edit as Edits, Test as Tests, Release as Releases, Retain, Read as Reads, IntoIter, Close}
 use Rattle.calls.specs.declared.call.Request.{Request}
+use Rattle.history.specs.Answering.{heard}
 use Rattle.history.specs.Standing.{lent_end}
 
 module _ {T : Type 0} (capacity len : ℕ) where
@@ -50,66 +51,60 @@ module _ {T S P : Type 0} (takes : S → T → S) (rule : P → T → Shown P T)
   abbrev xs : List T
   xs = m.lies.slots
 
-  -- m with so many of its slots, what q leaves there, and that with the other slots put back
+  -- m with these slots, and what a request left there with more slots behind them
   abbrev over : List T → Moment T S P
   over ys = record { phase = m.phase; lies = lie m.lies.places ys; bins = m.bins; predicates = m.predicates }
 
-  abbrev pub back : List T → Moment T S P → Moment T S P
-  back ys n = record { phase = n.phase; lies = lie n.lies.places (n.lies.slots ++ ys); bins = n.bins; predicates = n.predicates }
+  abbrev pub before : List T → Moment T S P → Moment T S P
+  before ys n = record { phase = n.phase; lies = lie n.lies.places (n.lies.slots ++ ys); bins = n.bins; predicates = n.predicates }
 
-  abbrev pub part : Happened T S P
-  part = step takes rule (over (take end xs)) (record { lent = length (take end xs); call = q.call })
+  abbrev extended : List T → Happened T S P → Happened T S P
+  extended ys h = record { after = before ys h.after; answer = h.answer }
 
   -- what q comes to over the slots ys, where it is refused for this cause or for none
   abbrev comes : List T → Option Fault → Happened T S P
   comes ys o = cond (made m.phase (length m.bins) (length m.predicates) q.call) (acts takes rule (over ys) q.call o) (record { after = over ys; answer = said (Err Unmade) })
 
-  abbrev R : ℕ → Option Fault
-  R k = refusal q.call m.lies.places.capacity k m.lies.places.len
+  abbrev refused : ℕ → Option Fault
+  refused k = refusal q.call m.lies.places.capacity k m.lies.places.len
 
-  refused_moment : (fault : Fault) → back (drop end xs) (comes (take end xs) (Some fault)).after ≡ (comes xs (Some fault)).after
-  refused_moment fault =
-      let whole : back (drop end xs) (over (take end xs)) ≡ m = ap over (take-append-drop end xs) in
-      elim (made m.phase (length m.bins) (length m.predicates) q.call)
-      as (λ b. back (drop end xs) (cond b (acts takes rule (over (take end xs)) q.call (Some fault)) (record { after = over (take end xs); answer = said (Err Unmade) })).after
-      ≡ (cond b (acts takes rule m q.call (Some fault)) (record { after = m; answer = said (Err Unmade) })).after) [ true ↦ whole | false ↦ whole ]
+  -- what q comes to over the first slots alone
+  abbrev pub part : Happened T S P
+  part = step takes rule (over (take end xs)) (record { lent = length (take end xs); call = q.call })
 
-  refused_answer : (fault : Fault) → (comes (take end xs) (Some fault)).answer ≡ (comes xs (Some fault)).answer
-  refused_answer fault =
+  short : (fault : Fault) → extended (drop end xs) (comes (take end xs) (Some fault)) ≡ comes xs (Some fault)
+  short fault =
+      let whole : (a : Heard T) → extended (drop end xs) (record { after = over (take end xs); answer = a }) ≡ record { after = m; answer = a } = λ a. ap (λ ys. record { after = over ys; answer = a }) (take-append-drop end xs) in
       elim (made m.phase (length m.bins) (length m.predicates) q.call)
-      as (λ b. (cond b (acts takes rule (over (take end xs)) q.call (Some fault)) (record { after = over (take end xs); answer = said (Err Unmade) })).answer
-      ≡ (cond b (acts takes rule m q.call (Some fault)) (record { after = m; answer = said (Err Unmade) })).answer) [ true ↦ refl | false ↦ refl ]
+      as (λ b. extended (drop end xs) (cond b (acts takes rule (over (take end xs)) q.call (Some fault)) (record { after = over (take end xs); answer = said (Err Unmade) }))
+      ≡ cond b (acts takes rule m q.call (Some fault)) (record { after = m; answer = said (Err Unmade) })) [ true ↦ whole _ | false ↦ whole _ ]
+
+  extended_by_none : (h : Happened T S P) → extended [] h ≡ h
+  extended_by_none h = ap (λ ys. record { after = record { phase = h.after.phase; lies = lie h.after.lies.places ys; bins = h.after.bins; predicates = h.after.predicates }; answer = h.answer }) (append-nil h.after.lies.slots)
 
   module _ (room : m.lies.places.capacity ≤ length xs) (is : end ≡ lent_end q.lent m.lies.places.capacity (length xs)) where
-    -- fewer than the capacity are lent, or all
-    short_or_whole : ((R (length (take end xs)) ≡ Some (TooFewSlots q.lent)) × (R q.lent ≡ Some (TooFewSlots q.lent))) ⊎ ((take end xs ≡ xs) × (drop end xs ≡ []) × (R (length xs) ≡ R q.lent))
-    short_or_whole =
+    lent : extended (drop end xs) part ≡ step takes rule m q
+    lent =
         let capacity = m.lies.places.capacity in
         elim (cases_lt q.lent capacity) [
           | inl lt ↦
-              let e : end ≡ q.lent = is ∙ ap (λ b. cond b (min q.lent (length xs)) (length xs)) (lt-ltb q.lent capacity lt) ∙ omega arith in
-              let short = refusal_short capacity m.lies.places.len q.call q.lent (lt-ltb q.lent capacity lt) in
-              inl (ap R (length-take-le end xs (omega arith) ∙ e) ∙ short, short)
+              let less = lt-ltb q.lent capacity lt in
+              let e : end ≡ q.lent = is ∙ ap (λ b. cond b (min q.lent (length xs)) (length xs)) less ∙ omega arith in
+              let cause = refusal_short capacity m.lies.places.len q.call q.lent less in
+              ap (λ o. extended (drop end xs) (comes (take end xs) o)) (ap refused (length-take-le end xs (omega arith) ∙ e) ∙ cause)
+              ∙ short (TooFewSlots q.lent)
+              ∙ sym (ap (comes xs) cause)
           | inr le ↦
-              let e : end ≡ length xs = is ∙ ap (λ b. cond b (min q.lent (length xs)) (length xs)) (le-ltb q.lent capacity le) in
-              inr (take_all end xs (omega arith), drop_all end xs (omega arith), refusal_enough capacity m.lies.places.len q.call (length xs) q.lent (le-ltb (length xs) capacity room) (le-ltb q.lent capacity le))
+              let more = le-ltb q.lent capacity le in
+              let e : end ≡ length xs = is ∙ ap (λ b. cond b (min q.lent (length xs)) (length xs)) more in
+              ap (λ ys. extended (drop end xs) (comes ys (refused (length ys)))) (take_all end xs (omega arith))
+              ∙ ap (λ ys. extended ys (comes xs (refused (length xs)))) (drop_all end xs (omega arith))
+              ∙ extended_by_none (comes xs (refused (length xs)))
+              ∙ ap (comes xs) (refusal_enough capacity m.lies.places.len q.call (length xs) q.lent (le-ltb (length xs) capacity room) more)
         ]
 
-    pub lent_moment : back (drop end xs) part.after ≡ (step takes rule m q).after
-    lent_moment =
-        elim short_or_whole [
-          | inl short ↦
-              ap (λ o. back (drop end xs) (comes (take end xs) o).after) short.0 ∙ refused_moment (TooFewSlots q.lent) ∙ sym (ap (λ o. (comes xs o).after) short.1)
-          | inr whole ↦
-              ap (λ ys. back (drop end xs) (comes ys (R (length ys))).after) whole.0
-              ∙ ap (λ ys. back ys (comes xs (R (length xs))).after) whole.1
-              ∙ ap (λ ys. record { phase = (comes xs (R (length xs))).after.phase; lies = lie (comes xs (R (length xs))).after.lies.places ys; bins = (comes xs (R (length xs))).after.bins; predicates = (comes xs (R (length xs))).after.predicates }) (append-nil (comes xs (R (length xs))).after.lies.slots)
-              ∙ ap (λ o. (comes xs o).after) whole.2
-        ]
+    pub lent_moment : (n : Moment T S P) → n ≡ part.after → before (drop end xs) n ≡ (step takes rule m q).after
+    lent_moment n e = ap (before (drop end xs)) e ∙ ap (λ h. h.after) lent
 
-    pub lent_answer : part.answer ≡ (step takes rule m q).answer
-    lent_answer =
-        elim short_or_whole [
-          | inl short ↦ ap (λ o. (comes (take end xs) o).answer) short.0 ∙ refused_answer (TooFewSlots q.lent) ∙ sym (ap (λ o. (comes xs o).answer) short.1)
-          | inr whole ↦ ap (λ ys. (comes ys (R (length ys))).answer) whole.0 ∙ ap (λ o. (comes xs o).answer) whole.2
-        ]
+    pub lent_told : {H : Type 0} (hears : H → Heard T → H) (h h' : H) → h' ≡ fold hears h (heard part.answer) → h' ≡ fold hears h (heard (step takes rule m q).answer)
+    lent_told hears h h' e = e ∙ ap (λ (z : Happened T S P). fold hears h (heard z.answer)) lent

@@ -1,17 +1,13 @@
--- One turn of a loop: what is left to do leads to where all of it leads.
-use Rattle.std.proofs.Common.{◌≡◌, ℕ, ◌+◌, ◌<◌, ◌≤◌, List, ◌∷◌, Ok, length, get_or, drop, fold, Option, sym, ap, ◌∙◌, ap₂}
-use Rattle.std.proofs.lemmas.List.{at_drop_more, at_drop_all}
-use Rattle.calls.specs.Answers.{Heard, said, walked}
-use Rattle.calls.specs.PlainList.{popped, walk}
+-- One turn of the loop over the requests: what is left to do leads to where all of it leads.
+use Rattle.std.proofs.Common.{◌≡◌, ℕ, ◌+◌, ◌<◌, List, ◌∷◌, length, get_or, drop, fold, sym, ap, ◌∙◌, ap₂}
+use Rattle.std.proofs.lemmas.List.{at_drop_more}
+use Rattle.std.proofs.lemmas.List.Sums.{fold-append}
+use Rattle.calls.specs.Answers.{Heard}
 use Rattle.calls.specs.RingAt.{Moment, step, run, answers}
-use Rattle.calls.specs.declared.answer.Value.TheVariants.{Item}
-use Rattle.places.specs.declared.End.{End}
 use Rattle.calls.specs.declared.call.Request.{Request}
-use Rattle.calls.proofs.PlainLaws.{folded_append}
 use Rattle.predicates.specs.Showing.{Shown}
 use Rattle.history.specs.Answering.{heard, all_heard}
 
--- requests, put one after another and told
 module _ {T S P H : Type 0} (takes : S → T → S) (rule : P → T → Shown P T) (hears : H → Heard T → H) where
   abbrev pub Leads : Moment T S P → H → List (Request T) → Moment T S P → H → Type 0
   Leads m h qs last all = (run takes rule m qs ≡ last) × (fold hears h (all_heard (answers takes rule m qs)) ≡ all)
@@ -24,13 +20,8 @@ module _ {T S P H : Type 0} (takes : S → T → S) (rule : P → T → Shown P 
       let told : Moment T S P → H → List (Request T) → H = λ z w l. fold hears w (all_heard (answers takes rule z l)) in (
         ap (λ z. run takes rule z later) e ∙ ap (λ x. run takes rule m (x ∷ later)) is ∙ sym (at_drop_more (run takes rule m) qs i q lt) ∙ so_far.0,
         ap₂ (λ z w. told z w later) e f
-            ∙ sym (folded_append hears h (heard (step takes rule m q).answer) (all_heard (answers takes rule (step takes rule m q).after later)))
+            ∙ sym (fold-append hears h (heard (step takes rule m q).answer) (all_heard (answers takes rule (step takes rule m q).after later)))
             ∙ ap (λ x. told m h (x ∷ later)) is
             ∙ sym (at_drop_more (told m h) qs i q lt)
             ∙ so_far.1,
       )
-
-  pub put_all : (qs : List (Request T)) (i : ℕ) (m last : Moment T S P) (h all : H) → length qs ≤ i → Leads m h (drop i qs) last all → (m ≡ last) × (h ≡ all)
-  put_all qs i m last h all le so_far =
-      let told : List (Request T) → H = λ l. fold hears h (all_heard (answers takes rule m l)) in
-      (sym (at_drop_all (run takes rule m) qs i le) ∙ so_far.0, sym (at_drop_all told qs i le) ∙ so_far.1)

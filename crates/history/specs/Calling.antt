@@ -1,5 +1,5 @@
 -- What a call comes to that is lent these slots and no more.
-use Rattle.std.specs.Prelude.{false, List, [], length}
+use Rattle.std.specs.Prelude.{false, List, length}
 use Rattle.bins.specs.declared.bin.Bin.{Ghosts as BinGhosts}
 use Rattle.predicates.specs.Showing.{Shown}
 use Rattle.predicates.specs.declared.predicate.Predicate.{Ghosts as PredicateGhosts}
@@ -17,27 +17,17 @@ module _ {T S P : Type 0} where
   left_with phase places slots bins predicates answer =
       record { after = record { phase = phase; lies = lie places slots; bins = bins; predicates = predicates }; answer = said answer }
 
-module _ {T S P : Type 0} (takes : S → T → S) (rule : P → T → Shown P T) where
-  abbrev pub called : Phase → Places → List T → List S → List P → Call T → Happened T S P
-  called phase places slots bins predicates call =
+  abbrev pub called : (S → T → S) → (P → T → Shown P T) → Phase → Places → List T → List S → List P → Call T → Happened T S P
+  called takes rule phase places slots bins predicates call =
       step takes rule (record { phase = phase; lies = lie places slots; bins = bins; predicates = predicates }) (record { lent = length slots; call = call })
 
--- the same where no bin is at hand, no predicate, or neither
+-- the rules that stand for those of bins and of predicates where none is at hand
 abbrev pub no_bin : {T : Type 0} → Unit {0} → T → Unit {0}
 no_bin s x = s
 
 abbrev pub no_predicate : {T : Type 0} → Unit {0} → T → Shown (Unit {0}) T
 no_predicate s x = record { answer = false; item = x; state = s }
 
-abbrev pub called_without_bins : {T P : Type 0} → (P → T → Shown P T) → Phase → Places → List T → List P → Call T → Happened T (Unit {0}) P
-called_without_bins rule phase places slots predicates call = called no_bin rule phase places slots [] predicates call
-
-abbrev pub called_without_predicates : {T S : Type 0} → (S → T → S) → Phase → Places → List T → List S → Call T → Happened T S (Unit {0})
-called_without_predicates takes phase places slots bins call = called takes no_predicate phase places slots bins [] call
-
-abbrev pub called_without_both : {T : Type 0} → Phase → Places → List T → Call T → Happened T (Unit {0}) (Unit {0})
-called_without_both phase places slots call = called no_bin no_predicate phase places slots [] [] call
-
--- the same of a stage, with bins and predicates as the code holds them
+-- a call of a stage, with bins and predicates as the code holds them
 abbrev pub called_at : {T B R P : Type 0} → (b : BinGhosts B T R) → (p : PredicateGhosts P T) → Stage → List T → List B → List P → Call T → Happened T b.State p.State
 called_at b p stage slots bins predicates call = step b.rule p.rule (moment_of b p stage slots bins predicates) (record { lent = length slots; call = call })

@@ -2,7 +2,7 @@
 ghost use Rattle.std.specs.Prelude.{◌≡◌, [], map};
 ghost use Rattle.calls.specs.Calls.{ring as at_ring};
 ghost use Rattle.calls.specs.declared.call.Call.TheVariants as call_is;
-ghost use Rattle.history.specs.Calling.{left_with, called, called_without_bins, called_without_predicates, called_without_both};
+ghost use Rattle.history.specs.Calling.{left_with, called, no_bin, no_predicate};
 
 use bins::Bin;
 use calls::{Answer, Edit, End, NotDone, Release, Test, Value};
@@ -10,7 +10,7 @@ use deque::Deque;
 use predicates::Predicate;
 
 pub(crate) fn edit<T: Copy>(ring: &mut Deque, edit: &Edit<'_, T>, slots: &mut [T]) -> Answer<T>
-    ensures { left_with at_ring ring.new.places slots.new [] [] result ≡ called_without_both at_ring ring.old.places slots.old (call_is.Edit edit.now) }
+    ensures { left_with at_ring ring.new.places slots.new [] [] result ≡ called no_bin no_predicate at_ring ring.old.places slots.old [] [] (call_is.Edit edit.now) }
 {
     match edit {
         Edit::Load(items) => {
@@ -52,7 +52,7 @@ pub(crate) fn test<T: Copy, P: Predicate<T>>(
     slots: &mut [T],
     predicates: &mut [P],
 ) -> Answer<T>
-    ensures { left_with at_ring ring.new.places slots.new [] (map P.state predicates.new) result ≡ called_without_bins P.rule at_ring ring.old.places slots.old (map P.state predicates.old) (call_is.Test test predicate) }
+    ensures { left_with at_ring ring.new.places slots.new [] (map P.state predicates.new) result ≡ called no_bin P.rule at_ring ring.old.places slots.old [] (map P.state predicates.old) (call_is.Test test predicate) }
 {
     if predicate >= predicates.len() {
         return Err(NotDone::Unmade);
@@ -73,7 +73,7 @@ pub(crate) fn release<T: Copy, B: Bin<T>>(
     slots: &[T],
     bins: &mut [B],
 ) -> Answer<T>
-    ensures { left_with at_ring ring.new.places slots.now (map B.state bins.new) [] result ≡ called_without_predicates B.rule at_ring ring.old.places slots.now (map B.state bins.old) (call_is.Release release bin) }
+    ensures { left_with at_ring ring.new.places slots.now (map B.state bins.new) [] result ≡ called B.rule no_predicate at_ring ring.old.places slots.now (map B.state bins.old) [] (call_is.Release release bin) }
 {
     if bin >= bins.len() {
         return Err(NotDone::Unmade);

@@ -36,13 +36,11 @@ fn take<T: Copy>(iter: &mut Iter<'_, T>, end: End) -> Option<T>
 }
 
 // Takes an item from each of these ends in turn.
-fn hear_walk<T: Copy, L: Listener<T>>(iter: Iter<'_, T>, ends: &[End], listener: &mut L)
+fn hear_walk<T: Copy, L: Listener<T>>(mut iter: Iter<'_, T>, ends: &[End], listener: &mut L)
     ensures { L.state listener.new ≡ fold L.rule (L.state listener.old) (heard (walked (plain_list.walk ends.now (ahead iter.entry)))) }
 {
-    let mut iter = iter;
     for end in ends {
-        let item = take(&mut iter, *end);
-        listener.hear(Ok(Value::Item(item)));
+        listener.hear(Ok(Value::Item(take(&mut iter, *end))));
     }
 }
 

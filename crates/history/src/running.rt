@@ -92,7 +92,7 @@ fn put<T: Copy, B: Bin<T>, P: Predicate<T>, L: Listener<T>>(
     ensures moment { let m = moment_of B.Bin P.Predicate stage slots.old bins.old predicates.old in moment_of B.Bin P.Predicate result slots.new bins.new predicates.new ≡ (step B.Bin.rule P.Predicate.rule m request.now).after }
     ensures told { let m = moment_of B.Bin P.Predicate stage slots.old bins.old predicates.old in L.Listener.state listener.new ≡ fold L.Listener.rule (L.Listener.state listener.old) (heard (step B.Bin.rule P.Predicate.rule m request.now).answer) }
 {
-    let end = lent_part(request.lent, stage.places().capacity(), slots.len());
+    let end = lent_part(request.lent, stage.capacity(), slots.len());
     call(
         stage,
         &request.call,

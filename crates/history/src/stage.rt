@@ -3,13 +3,12 @@ ghost use Rattle.std.specs.Prelude.{◌≡◌, [], length, map, fold};
 ghost use Rattle.fault.specs.Refusing.{unless, answer_or_return};
 ghost use Rattle.calls.specs.declared.call.Call.TheVariants as call_is;
 ghost use Rattle.history.specs.Standing.{phase_of, places_of, left_in, end_refusal, ended_or_kept};
-ghost use Rattle.history.specs.Calling.{left_with, called_without_predicates};
+ghost use Rattle.history.specs.Calling.{left_with, called, no_predicate};
 
 use bins::Bin;
 use calls::{Answer, NotDone, Value};
 use deque::{CloseToken, Deque, IntoIter};
 use fault::Returned;
-use places::Places;
 
 pub enum Stage {
     Ring(Deque, CloseToken),
@@ -18,17 +17,13 @@ pub enum Stage {
 }
 
 impl Stage {
-    pub(crate) fn places(&self) -> Places
-        ensures { result ≡ places_of self.now }
+    pub(crate) fn capacity(&self) -> usize
+        ensures { result ≡ (places_of self.now).capacity }
     {
         match self {
-            Stage::Ring(ring, _) => ring.places(),
-            Stage::Drain(drain, _) => drain.places(),
-            Stage::Closed { capacity } => Places {
-                capacity: *capacity,
-                front: 0,
-                len: 0,
-            },
+            Stage::Ring(ring, _) => ring.places().capacity(),
+            Stage::Drain(drain, _) => drain.places().capacity(),
+            Stage::Closed { capacity } => *capacity,
         }
     }
 
@@ -41,25 +36,19 @@ impl Stage {
         ensures bin { let s = B.state bin.old in B.state bin.new ≡ unless (end_refusal self (length slots.now)) s (fold B.rule s (left_in self slots.now)) }
     {
         match self {
-            Stage::Ring(ring, token) => ring.close(token, slots, bin).map_err(|returned| {
-                let Returned {
-                    fault,
-                    given: (ring, token),
-                } = returned;
-                Returned {
-                    fault,
-                    given: Stage::Ring(ring, token),
-                }
+            Stage::Ring(ring, token) => ring.close(token, slots, bin).map_err(|Returned {
+                fault,
+                given: (ring, token),
+            }| Returned {
+                fault,
+                given: Stage::Ring(ring, token),
             }),
-            Stage::Drain(drain, token) => drain.finish(token, slots, bin).map_err(|returned| {
-                let Returned {
-                    fault,
-                    given: (drain, token),
-                } = returned;
-                Returned {
-                    fault,
-                    given: Stage::Drain(drain, token),
-                }
+            Stage::Drain(drain, token) => drain.finish(token, slots, bin).map_err(|Returned {
+                fault,
+                given: (drain, token),
+            }| Returned {
+                fault,
+                given: Stage::Drain(drain, token),
             }),
             Stage::Closed { capacity: _ } => Ok(0),
         }
@@ -82,19 +71,15 @@ impl Stage {
         slots: &[T],
         bins: &mut [B],
     ) -> (Stage, Answer<T>)
-        ensures { left_with (phase_of result.0) (places_of result.0) slots.now (map B.state bins.new) [] result.1 ≡ called_without_predicates B.rule (phase_of self) (places_of self) slots.now (map B.state bins.old) (call_is.Close bin) }
+        ensures { left_with (phase_of result.0) (places_of result.0) slots.now (map B.state bins.new) [] result.1 ≡ called B.rule no_predicate (phase_of self) (places_of self) slots.now (map B.state bins.old) [] (call_is.Close bin) }
     {
-        let closed = matches!(self, Stage::Closed { .. });
-        if closed || bin >= bins.len() {
+        if matches!(self, Stage::Closed { .. }) || bin >= bins.len() {
             return (self, Err(NotDone::Unmade));
         }
-        let capacity = self.places().capacity();
+        let capacity = self.capacity();
         match self.end_or_return(slots, &mut bins[bin]) {
             Ok(binned) => (Stage::Closed { capacity }, Ok(Value::Number(binned))),
-            Err(returned) => {
-                let Returned { fault, given } = returned;
-                (given, Err(NotDone::from(fault)))
-            }
+            Err(returned) => (returned.given, Err(NotDone::from(returned.fault))),
         }
     }
 }
