@@ -5,7 +5,7 @@ use mathlib.Core.List.{Perm, perm_middle, perm_append_singleton, perm_append_com
 use Rattle.std.specs.List.{slice_get, swap}
 use Rattle.std.specs.Option.{option_to_list}
 use Rattle.std.proofs.lemmas.List.{append-nil, append_assoc, take-append-drop}
-use Rattle.std.proofs.lemmas.Bool.{cond_both, ltb-true, leb-false}
+use Rattle.std.proofs.lemmas.Bool.{cond_both, ltb-true}
 use Rattle.predicates.specs.Showing.{Shown, yes_to, left, stored, showings}
 use Rattle.deque.specs.Plain as plain
 use Rattle.deque.specs.Sifting.{Sifted, sift, first_to_end, kept, rest}
@@ -22,7 +22,7 @@ use Rattle.calls.specs.declared.call.Release.{Release}
 use Rattle.calls.specs.declared.call.Release.TheVariants.{Truncate, Clear}
 use Rattle.calls.specs.declared.call.Call.{Call}
 use Rattle.calls.specs.declared.call.Call.TheVariants.{Edit as Edits, Test as Tests, Release as Releases, Retain, Read as Reads, IntoIter, Close}
-use Rattle.calls.proofs.Refusing.{when_none, first_none}
+use Rattle.calls.proofs.Refusing.{both_inside}
 
 module _ {T : Type 0} where
   abbrev pub Balanced : List T → Turn T → Type 0
@@ -35,9 +35,6 @@ module _ {T : Type 0} where
   pub popped_bag : (end : End) (l : List T) → Perm l ((popped end l).list ++ option_to_list (popped end l).answer)
   popped_bag Front l = front_bag l
   popped_bag Back l = back_bag l
-
-  end_inside : (l : List T) (i : ℕ) → i < length l → length l - 1 < length l
-  end_inside l i h = omega arith
 
   swap_removed : (pop : List T → plain.Edit (Option T) T) → ((l : List T) → Perm l ((pop l).list ++ option_to_list (pop l).answer)) → (l : List T) (i j : ℕ) → (i < length l → j < length l)
       → let e = cond (ltb i (length l)) (pop (swap l i j)) (plain.edited None l) in Perm l (e.list ++ option_to_list e.answer ++ [] ++ [])
@@ -52,10 +49,10 @@ module _ {T : Type 0} where
   edit_balanced (Push Back item) capacity lent l h = simp append-nil (Perm.symm (perm_append_singleton item l))
   edit_balanced (Pop end) capacity lent l h = simp append-nil (popped_bag end l)
   edit_balanced (Swap i j) capacity lent l h =
-      let both = first_none _ _ (first_none _ _ h).1 in
-      simp append-nil (exchanged_bag l i j (leb-false (length l) i (when_none _ _ both.0)) (leb-false (length l) j (when_none _ _ both.1)))
+      let both = both_inside i j capacity lent (length l) h in
+      simp append-nil (exchanged_bag l i j both.0 both.1)
   edit_balanced (SwapRemove Front index) capacity lent l h = swap_removed plain.pop_front front_bag l index 0 (λ lt. omega arith)
-  edit_balanced (SwapRemove Back index) capacity lent l h = swap_removed plain.pop_back back_bag l index (length l - 1) (end_inside l index)
+  edit_balanced (SwapRemove Back index) capacity lent l h = swap_removed plain.pop_back back_bag l index (length l - 1) (λ lt. omega arith)
   edit_balanced MakeContiguous capacity lent l h = unmoved l
 
   release_balanced : (release : Release) (l : List T) → Balanced l (release_turn release l)

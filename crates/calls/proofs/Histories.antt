@@ -21,13 +21,9 @@ use Rattle.calls.specs.RingAt as ring_at
 use Rattle.calls.specs.Law.{making, Holds}
 use Rattle.calls.specs.declared.answer.Value.TheVariants.{Done, Item, Verdict, Number, Flag, Contiguous}
 use Rattle.calls.specs.declared.answer.NotDone.TheVariants.{Unmade, Refused}
-use Rattle.calls.specs.declared.call.Edit.{Edit}
 use Rattle.calls.specs.declared.call.Edit.TheVariants.{Load, Push, Pop, Swap, SwapRemove, MakeContiguous}
-use Rattle.calls.specs.declared.call.Test.{Test}
 use Rattle.calls.specs.declared.call.Test.TheVariants.{PopIf, Change}
-use Rattle.calls.specs.declared.call.Release.{Release}
 use Rattle.calls.specs.declared.call.Release.TheVariants.{Truncate, Clear}
-use Rattle.calls.specs.declared.call.Read.{Read}
 use Rattle.calls.specs.declared.call.Read.TheVariants.{Get, AtEnd, Len, Capacity, IsEmpty, IsFull, Slices, Walk}
 use Rattle.calls.specs.declared.call.Call.{Call}
 use Rattle.calls.specs.declared.call.Call.TheVariants.{Edit as Edits, Test as Tests, Release as Releases, Retain, Read as Reads, IntoIter, Close}
@@ -68,43 +64,31 @@ module _ {T P : Type 0} (rule : P → T → Shown P T) (p : Places) (xs : List T
   abbrev Steady : Heard T → Type 0
   Steady a = plainly (told p xs a) ≡ a
 
-  edit_steady : (edit : Edit T) (l : List T) → Steady (edit_turn edit l).answer
-  edit_steady (Load items) l = refl
-  edit_steady (Push end item) l = refl
-  edit_steady (Pop end) l = refl
-  edit_steady (Swap i j) l = refl
-  edit_steady (SwapRemove end index) l = refl
-  edit_steady MakeContiguous l = refl
-
-  test_steady : (test : Test) (s : P) (l : List T) → Steady (test_turn rule test s l).answer
-  test_steady (PopIf end) s l = refl
-  test_steady (Change index) s l = refl
-
-  release_steady : (release : Release) (l : List T) → Steady (release_turn release l).answer
-  release_steady (Truncate len) l = refl
-  release_steady Clear l = refl
-
   with_steady : (o : Option P) (does : P → Turn T) (l : List T) → ((s : P) → Steady (does s).answer) → Steady (with_predicate rule o does l).answer
   with_steady None does l h = refl
   with_steady (Some s) does l h = h s
 
-  read_steady : (read : Read) → Steady (reading p.capacity read (contents p xs))
-  unfolding contents
-  read_steady (Get index) = refl
-  read_steady (AtEnd end) = refl
-  read_steady Len = refl
-  read_steady Capacity = refl
-  read_steady IsEmpty = refl
-  read_steady IsFull = refl
-  read_steady Slices = refl
-  read_steady (Walk ends) = refl
-
   told_plainly : (call : Call T) (ps : List P) → Steady (turn rule p.capacity call ps (contents p xs)).answer
-  told_plainly (Edits edit) ps = edit_steady edit (contents p xs)
-  told_plainly (Tests test predicate) ps = with_steady (slice_get ps predicate) (λ s. test_turn rule test s (contents p xs)) (contents p xs) (λ s. test_steady test s (contents p xs))
-  told_plainly (Releases release bin) ps = release_steady release (contents p xs)
+  unfolding contents
+  told_plainly (Edits (Load items)) ps = refl
+  told_plainly (Edits (Push end item)) ps = refl
+  told_plainly (Edits (Pop end)) ps = refl
+  told_plainly (Edits (Swap i j)) ps = refl
+  told_plainly (Edits (SwapRemove end index)) ps = refl
+  told_plainly (Edits MakeContiguous) ps = refl
+  told_plainly (Tests (PopIf end) predicate) ps = with_steady (slice_get ps predicate) (λ s. test_turn rule (PopIf end) s (contents p xs)) (contents p xs) (λ s. refl)
+  told_plainly (Tests (Change index) predicate) ps = with_steady (slice_get ps predicate) (λ s. test_turn rule (Change index) s (contents p xs)) (contents p xs) (λ s. refl)
+  told_plainly (Releases (Truncate len) bin) ps = refl
+  told_plainly (Releases Clear bin) ps = refl
   told_plainly (Retain predicate bin) ps = with_steady (slice_get ps predicate) (λ s. retain_turn rule s (contents p xs)) (contents p xs) (λ s. refl)
-  told_plainly (Reads read) ps = read_steady read
+  told_plainly (Reads (Get index)) ps = refl
+  told_plainly (Reads (AtEnd end)) ps = refl
+  told_plainly (Reads Len) ps = refl
+  told_plainly (Reads Capacity) ps = refl
+  told_plainly (Reads IsEmpty) ps = refl
+  told_plainly (Reads IsFull) ps = refl
+  told_plainly (Reads Slices) ps = refl
+  told_plainly (Reads (Walk ends)) ps = refl
   told_plainly IntoIter ps = refl
   told_plainly (Close bin) ps = refl
 

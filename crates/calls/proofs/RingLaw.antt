@@ -4,7 +4,7 @@ use Rattle.std.specs.List.{slice_get, swap}
 use Rattle.std.proofs.lemmas.List.Edits.{length-swap}
 use Rattle.std.proofs.lemmas.List.{take_at, take_all}
 use Rattle.std.proofs.lemmas.Option.{slice_get_past}
-use Rattle.std.proofs.lemmas.Bool.{cond_both, cases_lt, ltb-true, ltb-false, leb-false, eqb-true, eqb-false}
+use Rattle.std.proofs.lemmas.Bool.{cond_both, cases_lt, ltb-true, eqb-true, eqb-false}
 use Rattle.predicates.specs.Showing.{Shown, yes_to, left, stored, showings}
 use Rattle.places.specs.declared.Places.{Places}
 use Rattle.deque.specs.Sound.{Sound}
@@ -34,7 +34,7 @@ use Rattle.calls.specs.declared.call.Release.{Release}
 use Rattle.calls.specs.declared.call.Release.TheVariants.{Truncate, Clear}
 use Rattle.calls.specs.declared.call.Call.{Call}
 use Rattle.calls.specs.declared.call.Call.TheVariants.{Edit as Edits, Test as Tests, Release as Releases, Retain, Read as Reads, IntoIter, Close}
-use Rattle.calls.proofs.Refusing.{none≢some, when_none, first_none}
+use Rattle.calls.proofs.Refusing.{load_fits, not_full, both_inside}
 
 -- a ring of this capacity that is sound, has its slots, and has this list
 pub record Good {T : Type 0} (capacity : ℕ) (r : Lies T) (l : List T) : Type 0 where
@@ -48,7 +48,7 @@ module _ {T : Type 0} where
   good_list l l' e g = record { list = g.list ∙ e; sound = g.sound; same_capacity = g.same_capacity; enough = g.enough }
 
   some_inside : (l : List T) (i : ℕ) (x : T) → slice_get l i ≡ Some x → i < length l
-  some_inside l i x e = elim (cases_lt i (length l)) [ inl h ↦ h | inr h ↦ absurd (none≢some x (sym (slice_get_past l i h) ∙ e)) ]
+  some_inside l i x e = elim (cases_lt i (length l)) [ inl h ↦ h | inr h ↦ cc (slice_get_past l i h) ]
 
 module _ {T : Type 0} (p : Places) (xs : List T) (ok : Sound p) (enough : p.capacity ≤ length xs) where
   abbrev N : ℕ
@@ -85,7 +85,7 @@ module _ {T : Type 0} (p : Places) (xs : List T) (ok : Sound p) (enough : p.capa
   pub stored_good : (i : ℕ) (o : Option T) → (p.len ≤ i → o ≡ None) → Good N (lie p (stored o (slot p i) xs)) (stored o i l)
   stored_good i None h = stays
   stored_good i (Some x) h =
-      let inside : i < p.len = elim (cases_lt i p.len) [ inl a ↦ a | inr a ↦ absurd (none≢some x (sym (h a))) ] in
+      let inside : i < p.len = elim (cases_lt i p.len) [ inl a ↦ a | inr a ↦ cc (h a) ] in
       record { list = contents_set p xs ok enough i x inside; sound = ok; same_capacity = refl; enough = simp length-set enough }
 
   exchanged_good : (i j : ℕ) → i < p.len → j < p.len → Good N (lie p (swap xs (slot p i) (slot p j))) (swap l i j)
@@ -146,18 +146,16 @@ module _ {T : Type 0} (p : Places) (xs : List T) (ok : Sound p) (enough : p.capa
 
   edit_good : (edit : Edit T) (lent : ℕ) → edit_refusal edit p.capacity lent p.len ≡ None → Good p.capacity (edits edit p xs) (edit_turn edit (contents p xs)).list
   edit_good (Load items) lent h =
-      let both = first_none _ _ (first_none _ _ h).1 in
-      let none = ltb-false 0 p.len (when_none _ _ both.0) in
-      let fits = ltb-false p.capacity (length items.now) (when_none _ _ both.1) in
-      record { list = contents_load p ok xs items.now enough (omega arith) fits; sound = (omega arith, omega arith, omega arith); same_capacity = refl; enough = simp (length-append, length-drop) (omega arith) }
+      let fits = load_fits (length items.now) p.capacity lent p.len h in
+      record { list = contents_load p ok xs items.now enough fits.0 fits.1; sound = (omega arith, omega arith, omega arith); same_capacity = refl; enough = simp (length-append, length-drop) (omega arith) }
   edit_good (Push end item) lent h =
-      let ne = eqb-false p.len p.capacity (when_none _ _ (first_none _ _ h).1) in
+      let ne = not_full p.capacity lent p.len h in
       let room : p.len < p.capacity = elim (cases_lt p.len p.capacity) [ inl a ↦ a | inr a ↦ absurd (ne (omega arith)) ] in
       pushed_good p xs ok enough end item room
   edit_good (Pop end) lent h = popped_good p xs ok enough end
   edit_good (Swap i j) lent h =
-      let both = first_none _ _ (first_none _ _ h).1 in
-      exchanged_good p xs ok enough i j (leb-false p.len i (when_none _ _ both.0)) (leb-false p.len j (when_none _ _ both.1))
+      let both = both_inside i j p.capacity lent p.len h in
+      exchanged_good p xs ok enough i j both.0 both.1
   edit_good (SwapRemove Front index) lent h =
       let s = length_contents p xs ok enough in
       subst (λ n. Good p.capacity (edits (SwapRemove Front index) p xs) (cond (ltb index n) (popped Front (swap (contents p xs) index 0)) (plain.edited None (contents p xs))).list) (sym s)
