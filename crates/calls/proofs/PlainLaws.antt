@@ -135,14 +135,9 @@ pub length_moved_at : {A : Type 0} (o : Option ℕ) (f : A → A) (xs : List A) 
 length_moved_at None f xs = refl
 length_moved_at (Some k) f xs = length_modified k f xs
 
-mapped : {A : Type 0} → (A → A) → Option A → Option A
-mapped f None = None
-mapped f (Some x) = Some (f x)
-
 nth_modified : {A : Type 0} (k i : ℕ) (f : A → A) (xs : List A) (x : A) → slice_get xs i ≡ Some x → slice_get (modified k f xs) i ≡ Some (cond (eqb i k) (f x) x)
-unfolding mapped
 nth_modified k i f [] x e = cc
-nth_modified zero zero f (y ∷ xs) x e = ap (mapped f) e
+nth_modified zero zero f (y ∷ xs) x e = cc
 nth_modified zero (suc i) f (y ∷ xs) x e = e ∙ ap (λ v. Some (cond v (f x) x)) (sym (eqb-suc-zero i))
 nth_modified (suc k) zero f (y ∷ xs) x e = e ∙ ap (λ v. Some (cond v (f x) x)) (sym (eqb-zero-suc k))
 nth_modified (suc k) (suc i) f (y ∷ xs) x e = nth_modified k i f xs x e ∙ ap (λ v. Some (cond v (f x) x)) (sym (eqb-suc-suc i k))

@@ -43,13 +43,6 @@ pub record Good {T : Type 0} (capacity : ℕ) (r : Lies T) (l : List T) : Type 0
   pub same_capacity : r.places.capacity ≡ capacity
   pub enough : capacity ≤ length r.slots
 
-module _ {T : Type 0} where
-  good_list : {capacity : ℕ} {r : Lies T} (l l' : List T) → l ≡ l' → Good capacity r l → Good capacity r l'
-  good_list l l' e g = record { list = g.list ∙ e; sound = g.sound; same_capacity = g.same_capacity; enough = g.enough }
-
-  some_inside : (l : List T) (i : ℕ) (x : T) → slice_get l i ≡ Some x → i < length l
-  some_inside l i x e = elim (cases_lt i (length l)) [ inl h ↦ h | inr h ↦ cc (slice_get_past l i h) ]
-
 module _ {T : Type 0} (p : Places) (xs : List T) (ok : Sound p) (enough : p.capacity ≤ length xs) where
   abbrev N : ℕ
   N = p.capacity
@@ -141,7 +134,7 @@ module _ {T : Type 0} (p : Places) (xs : List T) (ok : Sound p) (enough : p.capa
   swap_removed_good end i j inside true e =
       let hi = ltb-true i p.len e in
       let g = exchanged_good p xs ok enough i j hi (inside hi) in
-      good_list _ _ (ap (λ (l : List T). (popped end l).list) g.list) (popped_good p (swap xs (slot p i) (slot p j)) ok g.enough end)
+      subst (λ l. Good p.capacity (lie (pops end p) (swap xs (slot p i) (slot p j))) (popped end l).list) g.list (popped_good p (swap xs (slot p i) (slot p j)) ok g.enough end)
   swap_removed_good end i j inside false e = stays p xs ok enough
 
   edit_good : (edit : Edit T) (lent : ℕ) → edit_refusal edit p.capacity lent p.len ≡ None → Good p.capacity (edits edit p xs) (edit_turn edit (contents p xs)).list
@@ -171,19 +164,17 @@ module _ {T : Type 0} (p : Places) (xs : List T) (ok : Sound p) (enough : p.capa
   release_good Clear = cleared_good p xs ok enough
 
 module _ {T P : Type 0} (rule : P → T → Shown P T) (s : P) (p : Places) (xs : List T) (ok : Sound p) (enough : p.capacity ≤ length xs) where
-  left_none : (o : Option T) → o ≡ None → left rule s o ≡ None
-  left_none o e = ap (left rule s) e
-
   -- an item shown at i is stored as left
   shown_good : (i : ℕ) → Good p.capacity (lie p (stored (left rule s (slice_get (contents p xs) i)) (slot p i) xs)) (stored (left rule s (slice_get (contents p xs) i)) i (contents p xs))
-  shown_good i = stored_good p xs ok enough i (left rule s (slice_get (contents p xs) i)) (λ h. left_none (slice_get (contents p xs) i) (slice_get_past (contents p xs) i (omega (arith, length_contents p xs ok enough))))
+  shown_good i = stored_good p xs ok enough i (left rule s (slice_get (contents p xs) i)) (λ h. ap (left rule s) (slice_get_past (contents p xs) i (omega (arith, length_contents p xs ok enough))))
 
   -- and a yes pops it
   tested_good : (end : End) (i : ℕ) (b : Bool) → let after = stored (left rule s (slice_get (contents p xs) i)) i (contents p xs) in
       Good p.capacity (lie (cond b (pops end p) p) (stored (left rule s (slice_get (contents p xs) i)) (slot p i) xs)) (cond b (popped end after) (plain.edited None after)).list
   tested_good end i true =
       let g = shown_good i in
-      good_list _ _ (ap (λ (l : List T). (popped end l).list) g.list) (popped_good p (stored (left rule s (slice_get (contents p xs) i)) (slot p i) xs) ok g.enough end)
+      let ys = stored (left rule s (slice_get (contents p xs) i)) (slot p i) xs in
+      subst (λ l. Good p.capacity (lie (pops end p) ys) (popped end l).list) g.list (popped_good p ys ok g.enough end)
   tested_good end i false = shown_good i
 
   test_good : (test : Test) → Good p.capacity (tests rule test s p xs) (test_turn rule test s (contents p xs)).list
