@@ -11,7 +11,7 @@ use Rattle.deque.specs.Plain as plain
 use Rattle.deque.specs.Sifting.{Sifted, sift, first_to_end, kept, rest}
 use Rattle.lists.proofs.Bags.{equal_bag, set_bag, exchanged_bag, front_bag, back_bag}
 use Rattle.calls.specs.Calls.{edit_refusal, refusal}
-use Rattle.calls.specs.PlainList.{Turn, edit_turn, release_turn, test_turn, retain_turn, with_predicate, turn, popped}
+use Rattle.calls.specs.PlainList.{Turn, edit_turn, release_turn, test_turn, retain_turn, unmade, turn, popped}
 use Rattle.places.specs.declared.End.{End}
 use Rattle.places.specs.declared.End.TheVariants.{Front, Back}
 use Rattle.calls.specs.declared.call.Edit.{Edit}
@@ -22,6 +22,7 @@ use Rattle.calls.specs.declared.call.Release.{Release}
 use Rattle.calls.specs.declared.call.Release.TheVariants.{Truncate, Clear}
 use Rattle.calls.specs.declared.call.Call.{Call}
 use Rattle.calls.specs.declared.call.Call.TheVariants.{Edit as Edits, Test as Tests, Release as Releases, Retain, Read as Reads, IntoIter, Close}
+use Rattle.calls.proofs.Predicates.{either_way}
 use Rattle.calls.proofs.Refusing.{both_inside}
 
 module _ {T : Type 0} where
@@ -113,15 +114,11 @@ module _ {T P : Type 0} (rule : P → T → Shown P T) (s : P) where
   retain_balanced l = simp append-nil (Perm.append_right l (sifted_bag (showings rule s l)))
 
 module _ {T P : Type 0} (rule : P → T → Shown P T) where
-  with_balanced : (o : Option P) (does : P → Turn T) (l : List T) → ((s : P) → Balanced l (does s)) → Balanced l (with_predicate rule o does l)
-  with_balanced None does l h = unmoved l
-  with_balanced (Some s) does l h = h s
-
   pub balanced : (capacity lent : ℕ) (call : Call T) (ps : List P) (l : List T) → refusal call capacity lent (length l) ≡ None → Balanced l (turn rule capacity call ps l)
   balanced capacity lent (Edits edit) ps l h = edit_balanced edit capacity lent l h
-  balanced capacity lent (Tests test predicate) ps l h = with_balanced (slice_get ps predicate) (λ s. test_turn rule test s l) l (λ s. test_balanced rule s test l)
+  balanced capacity lent (Tests test predicate) ps l h = either_way (Balanced l) (slice_get ps predicate) (λ s. test_turn rule test s l) (unmade l) (unmoved l) (λ s. test_balanced rule s test l)
   balanced capacity lent (Releases release bin) ps l h = release_balanced release l
-  balanced capacity lent (Retain predicate bin) ps l h = with_balanced (slice_get ps predicate) (λ s. retain_turn rule s l) l (λ s. retain_balanced rule s l)
+  balanced capacity lent (Retain predicate bin) ps l h = either_way (Balanced l) (slice_get ps predicate) (λ s. retain_turn rule s l) (unmade l) (unmoved l) (λ s. retain_balanced rule s l)
   balanced capacity lent (Reads read) ps l h = unmoved l
   balanced capacity lent IntoIter ps l h = unmoved l
   balanced capacity lent (Close bin) ps l h = simp append-nil (Perm.refl l)

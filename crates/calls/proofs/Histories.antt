@@ -14,9 +14,9 @@ use Rattle.deque.specs.Moves as moves
 use Rattle.deque.proofs.Contents.{length_contents, contents_none}
 use Rattle.calls.specs.Calls.{bin_of, predicate_of, next_phase, refusal, made}
 use Rattle.calls.specs.Answers.{Heard, said, slices, walked, plainly, idle, struck}
-use Rattle.calls.specs.PlainList.{Plain, Step, Flow, Turn, turn, test_turn, edit_turn, release_turn, retain_turn, with_predicate, reading, nothing, next_state, moved_at, turned}
+use Rattle.calls.specs.PlainList.{Plain, Step, Flow, Turn, turn, test_turn, edit_turn, release_turn, retain_turn, unmade, reading, nothing, next_state, moved_at, turned}
 use Rattle.calls.specs.PlainList as plain_list
-use Rattle.calls.specs.RingAt.{Lies, lie, list_of, lies_after, answer_told, told, Moment, Happened, plain_of, acts}
+use Rattle.calls.specs.RingAt.{Lies, lie, list_of, lies_after, told, Moment, Happened, plain_of, acts}
 use Rattle.calls.specs.RingAt as ring_at
 use Rattle.calls.specs.Law.{making, Holds}
 use Rattle.calls.specs.declared.answer.Value.TheVariants.{Done, Item, Verdict, Number, Flag, Contiguous}
@@ -29,6 +29,7 @@ use Rattle.calls.specs.declared.call.Call.{Call}
 use Rattle.calls.specs.declared.call.Call.TheVariants.{Edit as Edits, Test as Tests, Release as Releases, Retain, Read as Reads, IntoIter, Close}
 use Rattle.calls.specs.declared.call.Request.{Request}
 use Rattle.calls.proofs.PlainLaws.{run_balanced, struck_run, struck_answers, effective_of, unmoved_at, length_moved_at, fed, bins_run, struck_bins, bins_fed}
+use Rattle.calls.proofs.Predicates.{either_way}
 use Rattle.calls.proofs.RingLaw.{ring_law}
 
 module _ {T : Type 0} where
@@ -61,14 +62,10 @@ module _ {T : Type 0} where
 
 module _ {T P : Type 0} (rule : P → T → Shown P T) (p : Places) (xs : List T) where
   -- what the ring tells is the plain answer, but for what `plainly` leaves out
-  abbrev Steady : Heard T → Type 0
-  Steady a = plainly (told p xs a) ≡ a
+  abbrev Steady : Turn T → Type 0
+  Steady t = plainly (told p xs t.answer) ≡ t.answer
 
-  with_steady : (o : Option P) (does : P → Turn T) (l : List T) → ((s : P) → Steady (does s).answer) → Steady (with_predicate rule o does l).answer
-  with_steady None does l h = refl
-  with_steady (Some s) does l h = h s
-
-  told_plainly : (call : Call T) (ps : List P) → Steady (turn rule p.capacity call ps (contents p xs)).answer
+  told_plainly : (call : Call T) (ps : List P) → Steady (turn rule p.capacity call ps (contents p xs))
   unfolding contents
   told_plainly (Edits (Load items)) ps = refl
   told_plainly (Edits (Push end item)) ps = refl
@@ -76,11 +73,11 @@ module _ {T P : Type 0} (rule : P → T → Shown P T) (p : Places) (xs : List T
   told_plainly (Edits (Swap i j)) ps = refl
   told_plainly (Edits (SwapRemove end index)) ps = refl
   told_plainly (Edits MakeContiguous) ps = refl
-  told_plainly (Tests (PopIf end) predicate) ps = with_steady (slice_get ps predicate) (λ s. test_turn rule (PopIf end) s (contents p xs)) (contents p xs) (λ s. refl)
-  told_plainly (Tests (Change index) predicate) ps = with_steady (slice_get ps predicate) (λ s. test_turn rule (Change index) s (contents p xs)) (contents p xs) (λ s. refl)
+  told_plainly (Tests (PopIf end) predicate) ps = either_way Steady (slice_get ps predicate) (λ s. test_turn rule (PopIf end) s (contents p xs)) (unmade (contents p xs)) refl (λ s. refl)
+  told_plainly (Tests (Change index) predicate) ps = either_way Steady (slice_get ps predicate) (λ s. test_turn rule (Change index) s (contents p xs)) (unmade (contents p xs)) refl (λ s. refl)
   told_plainly (Releases (Truncate len) bin) ps = refl
   told_plainly (Releases Clear bin) ps = refl
-  told_plainly (Retain predicate bin) ps = with_steady (slice_get ps predicate) (λ s. retain_turn rule s (contents p xs)) (contents p xs) (λ s. refl)
+  told_plainly (Retain predicate bin) ps = either_way Steady (slice_get ps predicate) (λ s. retain_turn rule s (contents p xs)) (unmade (contents p xs)) refl (λ s. refl)
   told_plainly (Reads (Get index)) ps = refl
   told_plainly (Reads (AtEnd end)) ps = refl
   told_plainly (Reads Len) ps = refl

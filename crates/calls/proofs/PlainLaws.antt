@@ -10,7 +10,7 @@ use Rattle.predicates.specs.Showing.{Shown}
 use Rattle.lists.proofs.Bags.{step_bag}
 use Rattle.calls.specs.Calls.{bin_of, refusal, made}
 use Rattle.calls.specs.Answers.{Heard, idle, struck}
-use Rattle.calls.specs.PlainList.{Plain, Step, Flow, Turn, test_turn, retain_turn, with_predicate, nothing, modified, moved_at, names, turned, step, run, answers, all, all_binned_in}
+use Rattle.calls.specs.PlainList.{Plain, Step, Flow, Turn, test_turn, retain_turn, unmade, nothing, modified, moved_at, names, turned, step, run, answers, all, all_binned_in}
 use Rattle.calls.specs.declared.call.Edit.TheVariants.{Load, Push, Pop, Swap, SwapRemove, MakeContiguous}
 use Rattle.calls.specs.declared.call.Test.TheVariants.{PopIf, Change}
 use Rattle.calls.specs.declared.call.Release.TheVariants.{Truncate, Clear}
@@ -18,6 +18,7 @@ use Rattle.calls.specs.declared.call.Read.TheVariants.{Get, AtEnd, Len, Capacity
 use Rattle.calls.specs.declared.call.Call.{Call}
 use Rattle.calls.specs.declared.call.Call.TheVariants.{Edit as Edits, Test as Tests, Release as Releases, Retain, Read as Reads, IntoIter, Close}
 use Rattle.calls.specs.declared.call.Request.{Request}
+use Rattle.calls.proofs.Predicates.{either_way}
 use Rattle.calls.proofs.Balance.{balanced, unmoved}
 
 module _ {T P : Type 0} (rule : P → T → Shown P T) (capacity bin_count : ℕ) where
@@ -50,10 +51,6 @@ module _ {T P : Type 0} (rule : P → T → Shown P T) (capacity bin_count : ℕ
   abbrev Busy : Turn T → Type 0
   Busy t = idle t.answer ≡ true → ⊥
 
-  with_busy : (o : Option P) (does : P → Turn T) (l : List T) → ((s : P) → Busy (does s)) → Busy (with_predicate rule o does l)
-  with_busy None does l h e = cc
-  with_busy (Some s) does l h e = h s e
-
   accepted_rests : (s : Plain T P) (call : Call T) → Rests s (turned rule capacity bin_count s call None)
   accepted_rests s (Edits (Load items)) h = cc
   accepted_rests s (Edits (Push end item)) h = cc
@@ -61,11 +58,11 @@ module _ {T P : Type 0} (rule : P → T → Shown P T) (capacity bin_count : ℕ
   accepted_rests s (Edits (Swap i j)) h = cc
   accepted_rests s (Edits (SwapRemove end index)) h = cc
   accepted_rests s (Edits MakeContiguous) h = (refl, refl)
-  accepted_rests s (Tests (PopIf end) predicate) h = absurd (with_busy (slice_get s.predicates predicate) (λ t. test_turn rule (PopIf end) t s.list) s.list (λ t e. cc) h)
-  accepted_rests s (Tests (Change index) predicate) h = absurd (with_busy (slice_get s.predicates predicate) (λ t. test_turn rule (Change index) t s.list) s.list (λ t e. cc) h)
+  accepted_rests s (Tests (PopIf end) predicate) h = absurd (either_way Busy (slice_get s.predicates predicate) (λ t. test_turn rule (PopIf end) t s.list) (unmade s.list) (λ e. cc) (λ t e. cc) h)
+  accepted_rests s (Tests (Change index) predicate) h = absurd (either_way Busy (slice_get s.predicates predicate) (λ t. test_turn rule (Change index) t s.list) (unmade s.list) (λ e. cc) (λ t e. cc) h)
   accepted_rests s (Releases (Truncate len) bin) h = cc
   accepted_rests s (Releases Clear bin) h = cc
-  accepted_rests s (Retain predicate bin) h = absurd (with_busy (slice_get s.predicates predicate) (λ t. retain_turn rule t s.list) s.list (λ t e. cc) h)
+  accepted_rests s (Retain predicate bin) h = absurd (either_way Busy (slice_get s.predicates predicate) (λ t. retain_turn rule t s.list) (unmade s.list) (λ e. cc) (λ t e. cc) h)
   accepted_rests s (Reads (Get index)) h = cc
   accepted_rests s (Reads (AtEnd end)) h = cc
   accepted_rests s (Reads Len) h = cc

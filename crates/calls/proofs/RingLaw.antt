@@ -1,6 +1,7 @@
 -- Each accepted call leaves a ring whose list is the edit of the list before.
 use Rattle.std.proofs.Common.{◌≡◌, ℕ, zero, ◌+◌, ◌-◌, ◌<◌, ◌≤◌, min, Bool, true, false, cond, eqb, ltb, List, [], ◌++◌, length, take, drop, Some, None, Option, sym, refl, ap, ◌∙◌, subst, inl, inr, mod-lt, arith, length-append, length-drop, length-set, length-take}
 use Rattle.std.specs.List.{slice_get, swap}
+use Rattle.std.specs.Option.{option_map_or}
 use Rattle.std.proofs.lemmas.List.Edits.{length-swap}
 use Rattle.std.proofs.lemmas.List.{take_at, take_all}
 use Rattle.std.proofs.lemmas.Option.{slice_get_past}
@@ -194,7 +195,7 @@ module _ {T P : Type 0} (rule : P → T → Shown P T) (s : P) (p : Places) (xs 
 
 module _ {T P : Type 0} (rule : P → T → Shown P T) (p : Places) (xs : List T) (ok : Sound p) (enough : p.capacity ≤ length xs) where
   with_good : (o : Option P) (does : P → Turn T) (leaves : P → Lies T) → ((s : P) → Good p.capacity (leaves s) (does s).list)
-      → Good p.capacity (ring_at.with_predicate rule o leaves p xs) (plain_list.with_predicate rule o does (contents p xs)).list
+      → Good p.capacity (option_map_or leaves o (lie p xs)) (option_map_or does o (plain_list.unmade (contents p xs))).list
   with_good None does leaves h = stays p xs ok enough
   with_good (Some s) does leaves h = h s
 

@@ -22,21 +22,22 @@ module _ {T : Type 0} where
   unless_refused (Some fault) item answer = said (Err (Refused fault item))
   unless_refused None item answer = answer
 
-  abbrev pub value_plainly : Value T → Value T
-  value_plainly Done = Done
-  value_plainly (Item item) = Item item
-  value_plainly (Verdict verdict) = Verdict verdict
-  value_plainly (Number number) = Number number
-  value_plainly (Flag flag) = Flag flag
-  value_plainly (Contiguous front len) = Contiguous 0 len
+  -- an answer as it is, but for where the list begins
+  abbrev pub value_from : (front : ℕ) → Value T → Value T
+  value_from front Done = Done
+  value_from front (Item item) = Item item
+  value_from front (Verdict verdict) = Verdict verdict
+  value_from front (Number number) = Number number
+  value_from front (Flag flag) = Flag flag
+  value_from front (Contiguous begins len) = Contiguous front len
 
-  abbrev pub answer_plainly : Answer T → Answer T
-  answer_plainly (Ok value) = Ok (value_plainly value)
-  answer_plainly (Err not_done) = Err not_done
+  abbrev pub answer_from : (front : ℕ) → Answer T → Answer T
+  answer_from front (Ok value) = Ok (value_from front value)
+  answer_from front (Err not_done) = Err not_done
 
   -- an answer but for a new front, and for the slots in which two slices lie and the place where they part
   abbrev pub plainly : Heard T → Heard T
-  plainly (said answer) = said (answer_plainly answer)
+  plainly (said answer) = said (answer_from 0 answer)
   plainly (slices front first second) = slices 0 (first ++ second) []
   plainly (walked items) = walked items
 

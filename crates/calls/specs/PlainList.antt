@@ -2,7 +2,7 @@
 -- It is fed the capacity, how many bins there are, what the calls bring, and how many slots they are lent.
 use Rattle.std.specs.Prelude.{ℕ, zero, suc, Bool, false, cond, List, [], ◌∷◌, ◌++◌, map, length, Some, None, Ok, Err, Option, ◌==◌}
 use Rattle.std.specs.List.{slice_get}
-use Rattle.std.specs.Option.{option_to_list}
+use Rattle.std.specs.Option.{option_to_list, option_map_or}
 use Rattle.fault.specs.declared.Fault.{Fault}
 use Rattle.fault.specs.Refusing.{unless}
 use Rattle.predicates.specs.Showing.{Shown, left, moved, showings, after}
@@ -54,6 +54,9 @@ module _ {T : Type 0} where
 
   abbrev pub comes_to : Heard T → List T → Flow T → Turn T
   comes_to answer l flow = record { answer = answer; list = l; flow = flow }
+
+  abbrev pub unmade : List T → Turn T
+  unmade l = comes_to (said (Err Unmade)) l nothing
 
   -- a call that hands out an item, or none; and one that bins items, and answers how many
   abbrev pub hands_out : plain.Edit (Option T) T → Turn T
@@ -133,17 +136,12 @@ module _ {T P : Type 0} (rule : P → T → Shown P T) where
       let e : plain.Edit ℕ T = plain.retain rule s l in
       comes_to (said (Ok (Number e.answer))) e.list (record { taken = []; handed = []; binned = e.binned; found = l; left = map (λ w. w.item) (showings rule s l) })
 
-  -- a call that uses a predicate: without one it comes to nothing
-  abbrev pub with_predicate : Option P → (P → Turn T) → List T → Turn T
-  with_predicate None turn l = comes_to (said (Err Unmade)) l nothing
-  with_predicate (Some s) turn l = turn s
-
-  -- what each accepted call comes to
+  -- what each accepted call comes to: without its predicate to nothing
   abbrev pub turn : (capacity : ℕ) → Call T → List P → List T → Turn T
   turn capacity (Edits edit) ps l = edit_turn edit l
-  turn capacity (Tests test predicate) ps l = with_predicate (slice_get ps predicate) (λ s. test_turn test s l) l
+  turn capacity (Tests test predicate) ps l = option_map_or (λ s. test_turn test s l) (slice_get ps predicate) (unmade l)
   turn capacity (Releases release bin) ps l = release_turn release l
-  turn capacity (Retain predicate bin) ps l = with_predicate (slice_get ps predicate) (λ s. retain_turn s l) l
+  turn capacity (Retain predicate bin) ps l = option_map_or (λ s. retain_turn s l) (slice_get ps predicate) (unmade l)
   turn capacity (Reads read) ps l = comes_to (reading capacity read l) l nothing
   turn capacity IntoIter ps l = comes_to (said (Ok Done)) l nothing
   turn capacity (Close bin) ps l = lets_go (plain.clear l)
