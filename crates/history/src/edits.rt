@@ -54,6 +54,7 @@ pub(crate) fn test<T: Copy, P: Predicate<T>>(
 ) -> Answer<T>
     ensures { left_with at_ring ring.new.places slots.new [] (map P.state predicates.new) result ≡ called no_bin P.rule at_ring ring.old.places slots.old [] (map P.state predicates.old) (call_is.Test test predicate) }
 {
+    // by index, here and below: after `get_mut` nothing is known of a slice's elements, and the clause is not proved
     if predicate >= predicates.len() {
         return Err(NotDone::Unmade);
     }

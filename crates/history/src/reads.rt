@@ -1,13 +1,13 @@
 // The calls that read a ring.
-ghost use Rattle.std.specs.Prelude.{◌≡◌, List, map, length, None, fold};
-ghost use Rattle.deque.specs.Ring.{contents, at};
-ghost use Rattle.deque.specs.Refusals as refusal;
-ghost use Rattle.calls.specs.Answers.{said, walked, unless_refused};
-ghost use Rattle.calls.specs.PlainList.{popped, reading};
+ghost use Rattle.std.specs.Prelude.{◌≡◌, [], fold};
+ghost use Rattle.calls.specs.Answers.{walked};
+ghost use Rattle.calls.specs.Calls.{ring as at_ring};
+ghost use Rattle.calls.specs.PlainList.{popped};
 ghost use Rattle.calls.specs.PlainList as plain_list;
-ghost use Rattle.calls.specs.RingAt.{told};
+ghost use Rattle.calls.specs.declared.call.Call.TheVariants as call_is;
 ghost use Rattle.walk.specs.Walks.{ahead};
 ghost use Rattle.history.specs.Answering.{heard, told_of};
+ghost use Rattle.history.specs.Calling.{called, no_bin, no_predicate};
 
 use crate::listener::Listener;
 use calls::{End, NotDone, Read, Value};
@@ -46,7 +46,7 @@ fn hear_walk<T: Copy, L: Listener<T>>(mut iter: Iter<'_, T>, ends: &[End], liste
 
 // What the ring shows to a read.
 fn look<'a, T: Copy>(ring: &Deque, read: &Read<'a>, slots: &'a [T]) -> Result<Reading<'a, T>, Fault>
-    ensures { let p = ring.now.places in let xs = slots.now in told_of result ≡ unless_refused (at p xs refusal.slots) None (told p xs (reading p.capacity read.now (contents p xs))) }
+    ensures { told_of result ≡ (called no_bin no_predicate at_ring ring.now.places slots.now [] [] (call_is.Read read.now)).answer }
 {
     Ok(match read {
         Read::Get(index) => Reading::Value(Value::Item(ring.get(slots, *index)?)),
@@ -70,7 +70,7 @@ pub(crate) fn read<T: Copy, L: Listener<T>>(
     slots: &[T],
     listener: &mut L,
 )
-    ensures { let p = ring.now.places in let xs = slots.now in L.state listener.new ≡ fold L.rule (L.state listener.old) (heard (unless_refused (at p xs refusal.slots) None (told p xs (reading p.capacity read.now (contents p xs))))) }
+    ensures { let h = called no_bin no_predicate at_ring ring.now.places slots.now [] [] (call_is.Read read.now) in L.state listener.new ≡ fold L.rule (L.state listener.old) (heard h.answer) }
 {
     match look(ring, read, slots) {
         Ok(Reading::Value(value)) => listener.hear(Ok(value)),

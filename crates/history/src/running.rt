@@ -79,7 +79,7 @@ fn call<T: Copy, B: Bin<T>, P: Predicate<T>, L: Listener<T>>(
     stage
 }
 
-// Puts one request.
+// Puts one request. A struct of the four borrows would be made anew here, for a part of the slots, and need a clause for each that it is the same borrow.
 fn put<T: Copy, B: Bin<T>, P: Predicate<T>, L: Listener<T>>(
     stage: Stage,
     request: &Request<'_, T>,

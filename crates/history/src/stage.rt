@@ -73,6 +73,7 @@ impl Stage {
     ) -> (Stage, Answer<T>)
         ensures { left_with (phase_of result.0) (places_of result.0) slots.now (map B.state bins.new) [] result.1 ≡ called B.rule no_predicate (phase_of self) (places_of self) slots.now (map B.state bins.old) [] (call_is.Close bin) }
     {
+        // by index, as in the edits
         if matches!(self, Stage::Closed { .. }) || bin >= bins.len() {
             return (self, Err(NotDone::Unmade));
         }
