@@ -82,10 +82,12 @@ module _ {T S P : Type 0} (takes : S → T → S) (rule : P → T → Shown P T)
   extended_by_none : (h : Happened T S P) → extended [] h ≡ h
   extended_by_none h = ap (λ ys. record { after = record { phase = h.after.phase; lies = lie h.after.lies.places ys; bins = h.after.bins; predicates = h.after.predicates }; answer = h.answer }) (append-nil h.after.lies.slots)
 
-  module _ (room : m.lies.places.capacity ≤ length xs) (is : end ≡ lent_end q.lent m.lies.places.capacity (length xs)) where
+  -- the capacity is counted by the code
+  module _ (room : m.lies.places.capacity ≤ length xs) (counted : ℕ) (is_end : end ≡ lent_end q.lent counted (length xs)) (is_capacity : counted ≡ m.lies.places.capacity) where
     lent : extended (drop end xs) part ≡ step takes rule m q
     lent =
         let capacity = m.lies.places.capacity in
+        let is : end ≡ lent_end q.lent capacity (length xs) = is_end ∙ ap (λ n. lent_end q.lent n (length xs)) is_capacity in
         elim (cases_lt q.lent capacity) [
           | inl lt ↦
               let less = lt-ltb q.lent capacity lt in
