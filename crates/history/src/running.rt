@@ -36,16 +36,24 @@ fn call<T: Copy, B: Bin<T>, P: Predicate<T>, L: Listener<T>>(
     ensures moment { let h = called_at B.Bin P.Predicate stage slots.old bins.old predicates.old call.now in moment_of B.Bin P.Predicate result slots.new bins.new predicates.new ≡ h.after }
     ensures told { let h = called_at B.Bin P.Predicate stage slots.old bins.old predicates.old call.now in L.Listener.state listener.new ≡ fold L.Listener.rule (L.Listener.state listener.old) (heard h.answer) }
 {
-    let (stage, answer) = match (stage, call) {
-        (stage, Call::Close { bin }) => stage.close(*bin, slots, bins),
-        (Stage::Ring(ring, token), Call::IntoIter) => into_iter(ring, token, slots),
+    match (stage, call) {
+        (stage, Call::Close { bin }) => {
+            let (stage, answer) = stage.close(*bin, slots, bins);
+            listener.hear(answer);
+            stage
+        }
+        (Stage::Ring(ring, token), Call::IntoIter) => {
+            let (stage, answer) = into_iter(ring, token, slots);
+            listener.hear(answer);
+            stage
+        }
         (Stage::Ring(ring, token), Call::Read(what)) => {
             read(&ring, what, slots, listener);
-            return Stage::Ring(ring, token);
+            Stage::Ring(ring, token)
         }
         (Stage::Ring(mut ring, token), Call::Edit(what)) => {
-            let answer = edit(&mut ring, what, slots);
-            (Stage::Ring(ring, token), answer)
+            listener.hear(edit(&mut ring, what, slots));
+            Stage::Ring(ring, token)
         }
         (
             Stage::Ring(mut ring, token),
@@ -54,29 +62,30 @@ fn call<T: Copy, B: Bin<T>, P: Predicate<T>, L: Listener<T>>(
                 predicate,
             },
         ) => {
-            let answer = test(&mut ring, *what, *predicate, slots, predicates);
-            (Stage::Ring(ring, token), answer)
+            listener.hear(test(&mut ring, *what, *predicate, slots, predicates));
+            Stage::Ring(ring, token)
         }
         (Stage::Ring(mut ring, token), Call::Release { release: what, bin }) => {
-            let answer = release(&mut ring, *what, *bin, slots, bins);
-            (Stage::Ring(ring, token), answer)
+            listener.hear(release(&mut ring, *what, *bin, slots, bins));
+            Stage::Ring(ring, token)
         }
         (Stage::Ring(mut ring, token), Call::Retain { predicate, bin }) => {
-            let answer = retain(&mut ring, *predicate, *bin, slots, predicates, bins);
-            (Stage::Ring(ring, token), answer)
+            listener.hear(retain(&mut ring, *predicate, *bin, slots, predicates, bins));
+            Stage::Ring(ring, token)
         }
         (Stage::Drain(mut drain, token), Call::Edit(Edit::Pop(end))) => {
-            let answer = next(&mut drain, slots, *end);
-            (Stage::Drain(drain, token), answer)
+            listener.hear(next(&mut drain, slots, *end));
+            Stage::Drain(drain, token)
         }
         (Stage::Drain(drain, token), Call::Read(Read::Len)) => {
-            let answer = len(&drain, slots);
-            (Stage::Drain(drain, token), answer)
+            listener.hear(len(&drain, slots));
+            Stage::Drain(drain, token)
         }
-        (stage, _) => (stage, Err(NotDone::Unmade)),
-    };
-    listener.hear(answer);
-    stage
+        (stage, _) => {
+            listener.hear(Err(NotDone::Unmade));
+            stage
+        }
+    }
 }
 
 // Puts one request. A struct of the four borrows would be made anew here, for a part of the slots, and need a clause for each that it is the same borrow.
