@@ -1,5 +1,5 @@
 -- Each accepted call keeps the books: what comes in is what goes out.
-use Rattle.std.proofs.Common.{◌≡◌, ℕ, ◌-◌, ◌<◌, cond, ltb, List, [], ◌∷◌, ◌++◌, map, length, set, Some, None, fold, Option, sym, refl, ap, ◌∙◌, arith}
+use Rattle.std.proofs.Common.{◌≡◌, ℕ, ◌-◌, ◌<◌, cond, nat_lt, List, [], ◌∷◌, ◌++◌, map, length, set, Some, None, fold, Option, sym, refl, ap, ◌∙◌, arith}
 use mathlib.Core.List.Perm
 use mathlib.Core.List.{Perm, perm_middle, perm_append_singleton, perm_append_comm}
 use Rattle.std.specs.List.{slice_get, swap}
@@ -38,9 +38,9 @@ module _ {T : Type 0} where
   popped_bag Back l = back_bag l
 
   swap_removed : (pop : List T → plain.Edit (Option T) T) → ((l : List T) → Perm l ((pop l).list ++ option_to_list (pop l).answer)) → (l : List T) (i j : ℕ) → (i < length l → j < length l)
-      → let e = cond (ltb i (length l)) (pop (swap l i j)) (plain.edited None l) in Perm l (e.list ++ option_to_list e.answer ++ [] ++ [])
+      → let e = cond (nat_lt i (length l)) (pop (swap l i j)) (plain.edited None l) in Perm l (e.list ++ option_to_list e.answer ++ [] ++ [])
   swap_removed pop bag l i j inside =
-      cond_both (ltb i (length l)) (pop (swap l i j)) (plain.edited None l) (λ e. Perm l (e.list ++ option_to_list e.answer ++ [] ++ []))
+      cond_both (nat_lt i (length l)) (pop (swap l i j)) (plain.edited None l) (λ e. Perm l (e.list ++ option_to_list e.answer ++ [] ++ []))
       (λ lt. simp append-nil (Perm.trans (exchanged_bag l i j (ltb-true i (length l) lt) (inside (ltb-true i (length l) lt))) (bag (swap l i j))))
       (λ _. unmoved l)
 

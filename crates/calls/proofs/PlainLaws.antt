@@ -1,5 +1,5 @@
 -- Laws of the plain list over whole runs.
-use Rattle.std.proofs.Common.{◌≡◌, ℕ, zero, suc, Bool, true, false, cond, eqb, List, [], ◌∷◌, ◌++◌, length, Some, None, fold, Option, sym, refl, ap, ◌∙◌, subst, subst₂}
+use Rattle.std.proofs.Common.{◌≡◌, ℕ, zero, suc, Bool, true, false, cond, ◌==◌, List, [], ◌∷◌, ◌++◌, length, Some, None, fold, Option, sym, refl, ap, ◌∙◌, subst, subst₂}
 use mathlib.Core.List.{Perm}
 use lib.Dec.{eqb-zero-suc, eqb-suc-zero, eqb-suc-suc}
 use Rattle.std.specs.List.{slice_get}
@@ -132,7 +132,7 @@ pub length_moved_at : {A : Type 0} (o : Option ℕ) (f : A → A) (xs : List A) 
 length_moved_at None f xs = refl
 length_moved_at (Some k) f xs = length_modified k f xs
 
-nth_modified : {A : Type 0} (k i : ℕ) (f : A → A) (xs : List A) (x : A) → slice_get xs i ≡ Some x → slice_get (modified k f xs) i ≡ Some (cond (eqb i k) (f x) x)
+nth_modified : {A : Type 0} (k i : ℕ) (f : A → A) (xs : List A) (x : A) → slice_get xs i ≡ Some x → slice_get (modified k f xs) i ≡ Some (cond (i == k) (f x) x)
 nth_modified k i f [] x e = cc
 nth_modified zero zero f (y ∷ xs) x e = cc
 nth_modified zero (suc i) f (y ∷ xs) x e = e ∙ ap (λ v. Some (cond v (f x) x)) (sym (eqb-suc-zero i))
@@ -148,7 +148,7 @@ module _ {S T : Type 0} (takes : S → T → S) where
   nth_fed None i items bs s e = e
   nth_fed (Some b) i items bs s e =
       nth_modified b i (λ s. fold takes s items) bs s e
-      ∙ elim (eqb i b) as (λ v. Some (cond v (fold takes s items) s) ≡ Some (fold takes s (cond v items []))) [ true ↦ refl | false ↦ refl ]
+      ∙ elim (i == b) as (λ v. Some (cond v (fold takes s items) s) ≡ Some (fold takes s (cond v items []))) [ true ↦ refl | false ↦ refl ]
 
   -- the bins beside the plain list
   module _ {P : Type 0} (rule : P → T → Shown P T) (capacity bin_count : ℕ) where

@@ -1,5 +1,5 @@
 -- Each accepted call leaves a ring whose list is the edit of the list before.
-use Rattle.std.proofs.Common.{◌≡◌, ℕ, zero, ◌+◌, ◌-◌, ◌<◌, ◌≤◌, min, Bool, true, false, cond, eqb, ltb, List, [], ◌++◌, length, take, drop, Some, None, Option, sym, refl, ap, ◌∙◌, subst, inl, inr, mod-lt, arith, length-append, length-drop, length-set, length-take}
+use Rattle.std.proofs.Common.{◌≡◌, ℕ, zero, ◌+◌, ◌-◌, ◌<◌, ◌≤◌, min, Bool, true, false, cond, ◌==◌, nat_lt, List, [], ◌++◌, length, take, drop, Some, None, Option, sym, refl, ap, ◌∙◌, subst, inl, inr, mod-lt, arith, length-append, length-drop, length-set, length-take}
 use Rattle.std.specs.List.{slice_get, swap}
 use Rattle.std.specs.Option.{option_map_or}
 use Rattle.std.proofs.lemmas.List.Edits.{length-swap}
@@ -66,7 +66,7 @@ module _ {T : Type 0} (p : Places) (xs : List T) (ok : Sound p) (enough : p.capa
 
   pub popped_good : (end : End) → Good N (lie (pops end p) xs) (popped end l).list
   popped_good Front =
-      cond_both (eqb p.len 0) p (placed p (slot p 1) (p.len - 1)) (λ q. Good N (lie q xs) (drop 1 l))
+      cond_both (p.len == 0) p (placed p (slot p 1) (p.len - 1)) (λ q. Good N (lie q xs) (drop 1 l))
       (λ e. let none = contents_none p xs ok enough (eqb-true p.len 0 e) in
       record { list = none ∙ sym (ap (drop 1) none); sound = ok; same_capacity = refl; enough = enough })
       (λ e. let some : 0 < p.len = elim (cases_lt 0 p.len) [ inl a ↦ a | inr a ↦ absurd (eqb-false p.len 0 e (omega arith)) ] in
@@ -130,7 +130,7 @@ module _ {T : Type 0} (p : Places) (xs : List T) (ok : Sound p) (enough : p.capa
 
 module _ {T : Type 0} (p : Places) (xs : List T) (ok : Sound p) (enough : p.capacity ≤ length xs) where
   -- after an exchange, or none, and then a pop
-  swap_removed_good : (end : End) (i j : ℕ) → (i < p.len → j < p.len) → (b : Bool) → ltb i p.len ≡ b
+  swap_removed_good : (end : End) (i j : ℕ) → (i < p.len → j < p.len) → (b : Bool) → nat_lt i p.len ≡ b
       → Good p.capacity (lie (cond b (pops end p) p) (cond b (swap xs (slot p i) (slot p j)) xs)) (cond b (popped end (swap (contents p xs) i j)) (plain.edited None (contents p xs))).list
   swap_removed_good end i j inside true e =
       let hi = ltb-true i p.len e in
@@ -152,12 +152,12 @@ module _ {T : Type 0} (p : Places) (xs : List T) (ok : Sound p) (enough : p.capa
       exchanged_good p xs ok enough i j both.0 both.1
   edit_good (SwapRemove Front index) lent h =
       let s = length_contents p xs ok enough in
-      subst (λ n. Good p.capacity (edits (SwapRemove Front index) p xs) (cond (ltb index n) (popped Front (swap (contents p xs) index 0)) (plain.edited None (contents p xs))).list) (sym s)
-      (swap_removed_good Front index 0 (λ i. omega arith) (ltb index p.len) refl)
+      subst (λ n. Good p.capacity (edits (SwapRemove Front index) p xs) (cond (nat_lt index n) (popped Front (swap (contents p xs) index 0)) (plain.edited None (contents p xs))).list) (sym s)
+      (swap_removed_good Front index 0 (λ i. omega arith) (nat_lt index p.len) refl)
   edit_good (SwapRemove Back index) lent h =
       let s = length_contents p xs ok enough in
-      subst (λ n. Good p.capacity (edits (SwapRemove Back index) p xs) (cond (ltb index n) (popped Back (swap (contents p xs) index (n - 1))) (plain.edited None (contents p xs))).list) (sym s)
-      (swap_removed_good Back index (p.len - 1) (λ i. omega arith) (ltb index p.len) refl)
+      subst (λ n. Good p.capacity (edits (SwapRemove Back index) p xs) (cond (nat_lt index n) (popped Back (swap (contents p xs) index (n - 1))) (plain.edited None (contents p xs))).list) (sym s)
+      (swap_removed_good Back index (p.len - 1) (λ i. omega arith) (nat_lt index p.len) refl)
   edit_good MakeContiguous lent h = gathered_good p xs ok enough
 
   release_good : (release : Release) → Good p.capacity (lie (releases release p) xs) (release_turn release (contents p xs)).list
