@@ -1,19 +1,19 @@
 -- Each accepted call keeps the books: what comes in is what goes out.
-use Rattle.std.proofs.Common.{◌≡◌, ℕ, ◌-◌, ◌<◌, cond, ltb, List, [], ◌∷◌, ◌++◌, map, length, set, Some, None, fold, Option, sym, refl, ap, ◌∙◌, arith}
+use Rattle.std.proofs.Common.{◌≡◌, ℕ, ◌-◌, ◌<◌, cond, nat_lt, List, [], ◌∷◌, ◌++◌, map, length, set, Some, None, fold, Option, sym, refl, ap, ◌∙◌, arith}
 use mathlib.Core.List.Perm
 use mathlib.Core.List.{Perm, perm_middle, perm_append_singleton, perm_append_comm}
 use Rattle.std.specs.List.{slice_get, swap}
 use Rattle.std.specs.Option.{option_to_list}
 use Rattle.std.proofs.lemmas.List.{append-nil, append_assoc, take-append-drop}
-use Rattle.std.proofs.lemmas.Bool.{cond_both, ltb-true, leb-false}
+use Rattle.std.proofs.lemmas.Bool.{cond_both, ltb-true}
 use Rattle.predicates.specs.Showing.{Shown, yes_to, left, stored, showings}
 use Rattle.deque.specs.Plain as plain
 use Rattle.deque.specs.Sifting.{Sifted, sift, first_to_end, kept, rest}
 use Rattle.lists.proofs.Bags.{equal_bag, set_bag, exchanged_bag, front_bag, back_bag}
 use Rattle.calls.specs.Calls.{edit_refusal, refusal}
-use Rattle.calls.specs.PlainList.{Turn, edit_turn, release_turn, test_turn, retain_turn, with_predicate, turn, popped}
-use Rattle.calls.specs.declared.call.End.{End}
-use Rattle.calls.specs.declared.call.End.TheVariants.{Front, Back}
+use Rattle.calls.specs.PlainList.{Turn, edit_turn, release_turn, test_turn, retain_turn, unmade, turn, popped}
+use Rattle.places.specs.declared.End.{End}
+use Rattle.places.specs.declared.End.TheVariants.{Front, Back}
 use Rattle.calls.specs.declared.call.Edit.{Edit}
 use Rattle.calls.specs.declared.call.Edit.TheVariants.{Load, Push, Pop, Swap, SwapRemove, MakeContiguous}
 use Rattle.calls.specs.declared.call.Test.{Test}
@@ -22,7 +22,8 @@ use Rattle.calls.specs.declared.call.Release.{Release}
 use Rattle.calls.specs.declared.call.Release.TheVariants.{Truncate, Clear}
 use Rattle.calls.specs.declared.call.Call.{Call}
 use Rattle.calls.specs.declared.call.Call.TheVariants.{Edit as Edits, Test as Tests, Release as Releases, Retain, Read as Reads, IntoIter, Close}
-use Rattle.calls.proofs.Refusing.{when_none, first_none}
+use Rattle.calls.proofs.Predicates.{either_way}
+use Rattle.calls.proofs.Refusing.{both_inside}
 
 module _ {T : Type 0} where
   abbrev pub Balanced : List T → Turn T → Type 0
@@ -36,13 +37,10 @@ module _ {T : Type 0} where
   popped_bag Front l = front_bag l
   popped_bag Back l = back_bag l
 
-  end_inside : (l : List T) (i : ℕ) → i < length l → length l - 1 < length l
-  end_inside l i h = omega arith
-
   swap_removed : (pop : List T → plain.Edit (Option T) T) → ((l : List T) → Perm l ((pop l).list ++ option_to_list (pop l).answer)) → (l : List T) (i j : ℕ) → (i < length l → j < length l)
-      → let e = cond (ltb i (length l)) (pop (swap l i j)) (plain.edited None l) in Perm l (e.list ++ option_to_list e.answer ++ [] ++ [])
+      → let e = cond (nat_lt i (length l)) (pop (swap l i j)) (plain.edited None l) in Perm l (e.list ++ option_to_list e.answer ++ [] ++ [])
   swap_removed pop bag l i j inside =
-      cond_both (ltb i (length l)) (pop (swap l i j)) (plain.edited None l) (λ e. Perm l (e.list ++ option_to_list e.answer ++ [] ++ []))
+      cond_both (nat_lt i (length l)) (pop (swap l i j)) (plain.edited None l) (λ e. Perm l (e.list ++ option_to_list e.answer ++ [] ++ []))
       (λ lt. simp append-nil (Perm.trans (exchanged_bag l i j (ltb-true i (length l) lt) (inside (ltb-true i (length l) lt))) (bag (swap l i j))))
       (λ _. unmoved l)
 
@@ -52,10 +50,10 @@ module _ {T : Type 0} where
   edit_balanced (Push Back item) capacity lent l h = simp append-nil (Perm.symm (perm_append_singleton item l))
   edit_balanced (Pop end) capacity lent l h = simp append-nil (popped_bag end l)
   edit_balanced (Swap i j) capacity lent l h =
-      let both = first_none _ _ (first_none _ _ h).1 in
-      simp append-nil (exchanged_bag l i j (leb-false (length l) i (when_none _ _ both.0)) (leb-false (length l) j (when_none _ _ both.1)))
+      let both = both_inside i j capacity lent (length l) h in
+      simp append-nil (exchanged_bag l i j both.0 both.1)
   edit_balanced (SwapRemove Front index) capacity lent l h = swap_removed plain.pop_front front_bag l index 0 (λ lt. omega arith)
-  edit_balanced (SwapRemove Back index) capacity lent l h = swap_removed plain.pop_back back_bag l index (length l - 1) (end_inside l index)
+  edit_balanced (SwapRemove Back index) capacity lent l h = swap_removed plain.pop_back back_bag l index (length l - 1) (λ lt. omega arith)
   edit_balanced MakeContiguous capacity lent l h = unmoved l
 
   release_balanced : (release : Release) (l : List T) → Balanced l (release_turn release l)
@@ -116,15 +114,11 @@ module _ {T P : Type 0} (rule : P → T → Shown P T) (s : P) where
   retain_balanced l = simp append-nil (Perm.append_right l (sifted_bag (showings rule s l)))
 
 module _ {T P : Type 0} (rule : P → T → Shown P T) where
-  with_balanced : (o : Option P) (does : P → Turn T) (l : List T) → ((s : P) → Balanced l (does s)) → Balanced l (with_predicate rule o does l)
-  with_balanced None does l h = unmoved l
-  with_balanced (Some s) does l h = h s
-
   pub balanced : (capacity lent : ℕ) (call : Call T) (ps : List P) (l : List T) → refusal call capacity lent (length l) ≡ None → Balanced l (turn rule capacity call ps l)
   balanced capacity lent (Edits edit) ps l h = edit_balanced edit capacity lent l h
-  balanced capacity lent (Tests test predicate) ps l h = with_balanced (slice_get ps predicate) (λ s. test_turn rule test s l) l (λ s. test_balanced rule s test l)
+  balanced capacity lent (Tests test predicate) ps l h = either_way (Balanced l) (slice_get ps predicate) (λ s. test_turn rule test s l) (unmade l) (unmoved l) (λ s. test_balanced rule s test l)
   balanced capacity lent (Releases release bin) ps l h = release_balanced release l
-  balanced capacity lent (Retain predicate bin) ps l h = with_balanced (slice_get ps predicate) (λ s. retain_turn rule s l) l (λ s. retain_balanced rule s l)
+  balanced capacity lent (Retain predicate bin) ps l h = either_way (Balanced l) (slice_get ps predicate) (λ s. retain_turn rule s l) (unmade l) (unmoved l) (λ s. retain_balanced rule s l)
   balanced capacity lent (Reads read) ps l h = unmoved l
   balanced capacity lent IntoIter ps l h = unmoved l
   balanced capacity lent (Close bin) ps l h = simp append-nil (Perm.refl l)

@@ -1,5 +1,5 @@
 -- The ring and the plain list go together, request by request and over whole histories.
-use Rattle.std.proofs.Common.{◌≡◌, ℕ, ◌+◌, ◌%◌, ◌^◌, ◌<◌, ◌≤◌, true, false, cond, List, [], ◌∷◌, ◌++◌, map, length, Some, None, fold, Option, sym, refl, ap, ◌∙◌, subst, ap₂, subst₂, arith}
+use Rattle.std.proofs.Common.{◌≡◌, ℕ, ◌+◌, ◌%◌, ◌^◌, ◌<◌, ◌≤◌, true, false, cond, List, [], ◌∷◌, ◌++◌, map, length, Some, None, Ok, Err, fold, Option, sym, refl, ap, ◌∙◌, subst, ap₂, subst₂, arith}
 use mathlib.Core.Path.{subst₃}
 use mathlib.Core.List.{Perm}
 use Rattle.std.specs.List.{slice_get}
@@ -14,36 +14,34 @@ use Rattle.deque.specs.Moves as moves
 use Rattle.deque.proofs.Contents.{length_contents, contents_none}
 use Rattle.calls.specs.Calls.{bin_of, predicate_of, next_phase, refusal, made}
 use Rattle.calls.specs.Answers.{Heard, said, slices, walked, plainly, idle, struck}
-use Rattle.calls.specs.PlainList.{Plain, Step, Flow, Turn, turn, test_turn, edit_turn, release_turn, retain_turn, with_predicate, reading, nothing, next_state, moved_at, turned}
+use Rattle.calls.specs.PlainList.{Plain, Step, Flow, Turn, turn, test_turn, edit_turn, release_turn, retain_turn, unmade, reading, nothing, next_state, moved_at, turned}
 use Rattle.calls.specs.PlainList as plain_list
-use Rattle.calls.specs.RingAt.{Lies, lie, list_of, lies_after, answer_told, told, Moment, Happened, plain_of, acts}
+use Rattle.calls.specs.RingAt.{Lies, lie, list_of, lies_after, told, Moment, Happened, plain_of, acts}
 use Rattle.calls.specs.RingAt as ring_at
 use Rattle.calls.specs.Law.{making, Holds}
-use Rattle.calls.specs.declared.answer.Answer.TheVariants.{Unmade, Refused, Done, Item, Verdict, Number, Flag, Contiguous}
-use Rattle.calls.specs.declared.call.Edit.{Edit}
+use Rattle.calls.specs.declared.answer.Value.TheVariants.{Done, Item, Verdict, Number, Flag, Contiguous}
+use Rattle.calls.specs.declared.answer.NotDone.TheVariants.{Unmade, Refused}
 use Rattle.calls.specs.declared.call.Edit.TheVariants.{Load, Push, Pop, Swap, SwapRemove, MakeContiguous}
-use Rattle.calls.specs.declared.call.Test.{Test}
 use Rattle.calls.specs.declared.call.Test.TheVariants.{PopIf, Change}
-use Rattle.calls.specs.declared.call.Release.{Release}
 use Rattle.calls.specs.declared.call.Release.TheVariants.{Truncate, Clear}
-use Rattle.calls.specs.declared.call.Read.{Read}
 use Rattle.calls.specs.declared.call.Read.TheVariants.{Get, AtEnd, Len, Capacity, IsEmpty, IsFull, Slices, Walk}
 use Rattle.calls.specs.declared.call.Call.{Call}
 use Rattle.calls.specs.declared.call.Call.TheVariants.{Edit as Edits, Test as Tests, Release as Releases, Retain, Read as Reads, IntoIter, Close}
 use Rattle.calls.specs.declared.call.Request.{Request}
 use Rattle.calls.proofs.PlainLaws.{run_balanced, struck_run, struck_answers, effective_of, unmoved_at, length_moved_at, fed, bins_run, struck_bins, bins_fed}
+use Rattle.calls.proofs.Predicates.{either_way}
 use Rattle.calls.proofs.RingLaw.{ring_law}
 
 module _ {T : Type 0} where
   idle_plainly : (a : Heard T) → idle (plainly a) ≡ idle a
-  idle_plainly (said Unmade) = refl
-  idle_plainly (said (Refused fault item)) = refl
-  idle_plainly (said Done) = refl
-  idle_plainly (said (Item item)) = refl
-  idle_plainly (said (Verdict verdict)) = refl
-  idle_plainly (said (Number number)) = refl
-  idle_plainly (said (Flag flag)) = refl
-  idle_plainly (said (Contiguous front len)) = refl
+  idle_plainly (said (Ok Done)) = refl
+  idle_plainly (said (Ok (Item item))) = refl
+  idle_plainly (said (Ok (Verdict verdict))) = refl
+  idle_plainly (said (Ok (Number number))) = refl
+  idle_plainly (said (Ok (Flag flag))) = refl
+  idle_plainly (said (Ok (Contiguous front len))) = refl
+  idle_plainly (said (Err Unmade)) = refl
+  idle_plainly (said (Err (Refused fault item))) = refl
   idle_plainly (slices front first second) = refl
   idle_plainly (walked items) = refl
 
@@ -64,46 +62,30 @@ module _ {T : Type 0} where
 
 module _ {T P : Type 0} (rule : P → T → Shown P T) (p : Places) (xs : List T) where
   -- what the ring tells is the plain answer, but for what `plainly` leaves out
-  abbrev Steady : Heard T → Type 0
-  Steady a = plainly (told p xs a) ≡ a
+  abbrev Steady : Turn T → Type 0
+  Steady t = plainly (told p xs t.answer) ≡ t.answer
 
-  edit_steady : (edit : Edit T) (l : List T) → Steady (edit_turn edit l).answer
-  edit_steady (Load items) l = refl
-  edit_steady (Push end item) l = refl
-  edit_steady (Pop end) l = refl
-  edit_steady (Swap i j) l = refl
-  edit_steady (SwapRemove end index) l = refl
-  edit_steady MakeContiguous l = refl
-
-  test_steady : (test : Test) (s : P) (l : List T) → Steady (test_turn rule test s l).answer
-  test_steady (PopIf end) s l = refl
-  test_steady (Change index) s l = refl
-
-  release_steady : (release : Release) (l : List T) → Steady (release_turn release l).answer
-  release_steady (Truncate len) l = refl
-  release_steady Clear l = refl
-
-  with_steady : (o : Option P) (does : P → Turn T) (l : List T) → ((s : P) → Steady (does s).answer) → Steady (with_predicate rule o does l).answer
-  with_steady None does l h = refl
-  with_steady (Some s) does l h = h s
-
-  read_steady : (read : Read) → Steady (reading p.capacity read (contents p xs))
+  told_plainly : (call : Call T) (ps : List P) → Steady (turn rule p.capacity call ps (contents p xs))
   unfolding contents
-  read_steady (Get index) = refl
-  read_steady (AtEnd end) = refl
-  read_steady Len = refl
-  read_steady Capacity = refl
-  read_steady IsEmpty = refl
-  read_steady IsFull = refl
-  read_steady Slices = refl
-  read_steady (Walk ends) = refl
-
-  told_plainly : (call : Call T) (ps : List P) → Steady (turn rule p.capacity call ps (contents p xs)).answer
-  told_plainly (Edits edit) ps = edit_steady edit (contents p xs)
-  told_plainly (Tests test predicate) ps = with_steady (slice_get ps predicate) (λ s. test_turn rule test s (contents p xs)) (contents p xs) (λ s. test_steady test s (contents p xs))
-  told_plainly (Releases release bin) ps = release_steady release (contents p xs)
-  told_plainly (Retain predicate bin) ps = with_steady (slice_get ps predicate) (λ s. retain_turn rule s (contents p xs)) (contents p xs) (λ s. refl)
-  told_plainly (Reads read) ps = read_steady read
+  told_plainly (Edits (Load items)) ps = refl
+  told_plainly (Edits (Push end item)) ps = refl
+  told_plainly (Edits (Pop end)) ps = refl
+  told_plainly (Edits (Swap i j)) ps = refl
+  told_plainly (Edits (SwapRemove end index)) ps = refl
+  told_plainly (Edits MakeContiguous) ps = refl
+  told_plainly (Tests (PopIf end) predicate) ps = either_way Steady (slice_get ps predicate) (λ s. test_turn rule (PopIf end) s (contents p xs)) (unmade (contents p xs)) refl (λ s. refl)
+  told_plainly (Tests (Change index) predicate) ps = either_way Steady (slice_get ps predicate) (λ s. test_turn rule (Change index) s (contents p xs)) (unmade (contents p xs)) refl (λ s. refl)
+  told_plainly (Releases (Truncate len) bin) ps = refl
+  told_plainly (Releases Clear bin) ps = refl
+  told_plainly (Retain predicate bin) ps = either_way Steady (slice_get ps predicate) (λ s. retain_turn rule s (contents p xs)) (unmade (contents p xs)) refl (λ s. refl)
+  told_plainly (Reads (Get index)) ps = refl
+  told_plainly (Reads (AtEnd end)) ps = refl
+  told_plainly (Reads Len) ps = refl
+  told_plainly (Reads Capacity) ps = refl
+  told_plainly (Reads IsEmpty) ps = refl
+  told_plainly (Reads IsFull) ps = refl
+  told_plainly (Reads Slices) ps = refl
+  told_plainly (Reads (Walk ends)) ps = refl
   told_plainly IntoIter ps = refl
   told_plainly (Close bin) ps = refl
 
@@ -154,12 +136,12 @@ module _ {T S P : Type 0} (takes : S → T → S) (rule : P → T → Shown P T)
       let s = plain_of takes rule m in
       let n : length (list_of m.lies) ≡ m.lies.places.len = length_contents m.lies.places m.lies.slots f.sound f.enough in
       let o = refusal q.call N q.lent m.lies.places.len in
-      let t : Together m q (ring_at.step takes rule m q) (cond (made m.phase B (length m.predicates) q.call) (turned rule N B s q.call o) (record { after = s; answer = said Unmade; flow = nothing })) =
-      elim (made m.phase B (length m.predicates) q.call) as (λ b. Together m q (cond b (acts takes rule m q.call o) (record { after = m; answer = said Unmade })) (cond b (turned rule N B s q.call o) (record { after = s; answer = said Unmade; flow = nothing }))) [
+      let t : Together m q (ring_at.step takes rule m q) (cond (made m.phase B (length m.predicates) q.call) (turned rule N B s q.call o) (record { after = s; answer = said (Err Unmade); flow = nothing })) =
+      elim (made m.phase B (length m.predicates) q.call) as (λ b. Together m q (cond b (acts takes rule m q.call o) (record { after = m; answer = said (Err Unmade) })) (cond b (turned rule N B s q.call o) (record { after = s; answer = said (Err Unmade); flow = nothing }))) [
         | true ↦ acting m q f o (λ e. e)
-        | false ↦ at_rest m q (said Unmade) refl f
+        | false ↦ at_rest m q (said (Err Unmade)) refl f
       ] in
-      subst (λ k. Together m q (ring_at.step takes rule m q) (cond (made m.phase B (length m.predicates) q.call) (turned rule N B s q.call (refusal q.call N q.lent k)) (record { after = s; answer = said Unmade; flow = nothing }))) (sym n) t
+      subst (λ k. Together m q (ring_at.step takes rule m q) (cond (made m.phase B (length m.predicates) q.call) (turned rule N B s q.call (refusal q.call N q.lent k)) (record { after = s; answer = said (Err Unmade); flow = nothing }))) (sym n) t
 
   pub step_fit : (m : Moment T S P) (q : Request T) → Fit m.lies → Fit (ring_at.step takes rule m q).after.lies
   step_fit m q f = (together m q f).fit

@@ -1,4 +1,5 @@
 mod Refusing
+mod Predicates
 mod Balance
 pub mod PlainLaws
 mod RingLaw

@@ -1,26 +1,24 @@
 -- Laws of the plain list over whole runs.
-use Rattle.std.proofs.Common.{◌≡◌, ℕ, zero, suc, Bool, true, false, cond, eqb, List, [], ◌∷◌, ◌++◌, length, Some, None, fold, Option, sym, refl, ap, ◌∙◌, subst, subst₂}
+use Rattle.std.proofs.Common.{◌≡◌, ℕ, zero, suc, Bool, true, false, cond, ◌==◌, List, [], ◌∷◌, ◌++◌, length, Some, None, fold, Option, sym, refl, ap, ◌∙◌, subst, subst₂}
 use mathlib.Core.List.{Perm}
 use lib.Dec.{eqb-zero-suc, eqb-suc-zero, eqb-suc-suc}
 use Rattle.std.specs.List.{slice_get}
-use Rattle.std.proofs.lemmas.Bool.{cond_both, false≢true}
+use Rattle.std.proofs.lemmas.Bool.{cond_both}
+use Rattle.std.proofs.lemmas.List.Sums.{fold-append}
 use Rattle.fault.specs.declared.Fault.{Fault}
 use Rattle.predicates.specs.Showing.{Shown}
 use Rattle.lists.proofs.Bags.{step_bag}
 use Rattle.calls.specs.Calls.{bin_of, refusal, made}
 use Rattle.calls.specs.Answers.{Heard, idle, struck}
-use Rattle.calls.specs.PlainList.{Plain, Step, Flow, Turn, test_turn, release_turn, retain_turn, with_predicate, reading, nothing, modified, moved_at, names, turned, step, run, answers, all, all_binned_in}
+use Rattle.calls.specs.PlainList.{Plain, Step, Flow, Turn, test_turn, retain_turn, unmade, nothing, modified, moved_at, names, turned, step, run, answers, all, all_binned_in}
 use Rattle.calls.specs.declared.call.Edit.TheVariants.{Load, Push, Pop, Swap, SwapRemove, MakeContiguous}
-use Rattle.calls.specs.declared.call.Test.{Test}
 use Rattle.calls.specs.declared.call.Test.TheVariants.{PopIf, Change}
-use Rattle.calls.specs.declared.call.Release.{Release}
 use Rattle.calls.specs.declared.call.Release.TheVariants.{Truncate, Clear}
-use Rattle.calls.specs.declared.call.Read.{Read}
 use Rattle.calls.specs.declared.call.Read.TheVariants.{Get, AtEnd, Len, Capacity, IsEmpty, IsFull, Slices, Walk}
 use Rattle.calls.specs.declared.call.Call.{Call}
 use Rattle.calls.specs.declared.call.Call.TheVariants.{Edit as Edits, Test as Tests, Release as Releases, Retain, Read as Reads, IntoIter, Close}
 use Rattle.calls.specs.declared.call.Request.{Request}
-use Rattle.calls.proofs.Refusing.{none≢some}
+use Rattle.calls.proofs.Predicates.{either_way}
 use Rattle.calls.proofs.Balance.{balanced, unmoved}
 
 module _ {T P : Type 0} (rule : P → T → Shown P T) (capacity bin_count : ℕ) where
@@ -53,41 +51,28 @@ module _ {T P : Type 0} (rule : P → T → Shown P T) (capacity bin_count : ℕ
   abbrev Busy : Turn T → Type 0
   Busy t = idle t.answer ≡ true → ⊥
 
-  with_busy : (o : Option P) (does : P → Turn T) (l : List T) → ((s : P) → Busy (does s)) → Busy (with_predicate rule o does l)
-  with_busy None does l h = false≢true
-  with_busy (Some s) does l h = h s
-
-  test_busy : (test : Test) (s : P) (l : List T) → Busy (test_turn rule test s l)
-  test_busy (PopIf end) s l = false≢true
-  test_busy (Change index) s l = false≢true
-
-  release_busy : (release : Release) (l : List T) → Busy (release_turn release l)
-  release_busy (Truncate len) l = false≢true
-  release_busy Clear l = false≢true
-
-  reading_busy : (read : Read) (l : List T) → idle (reading capacity read l) ≡ true → ⊥
-  reading_busy (Get index) l = false≢true
-  reading_busy (AtEnd end) l = false≢true
-  reading_busy Len l = false≢true
-  reading_busy Capacity l = false≢true
-  reading_busy IsEmpty l = false≢true
-  reading_busy IsFull l = false≢true
-  reading_busy Slices l = false≢true
-  reading_busy (Walk ends) l = false≢true
-
   accepted_rests : (s : Plain T P) (call : Call T) → Rests s (turned rule capacity bin_count s call None)
-  accepted_rests s (Edits (Load items)) h = absurd (false≢true h)
-  accepted_rests s (Edits (Push end item)) h = absurd (false≢true h)
-  accepted_rests s (Edits (Pop end)) h = absurd (false≢true h)
-  accepted_rests s (Edits (Swap i j)) h = absurd (false≢true h)
-  accepted_rests s (Edits (SwapRemove end index)) h = absurd (false≢true h)
+  accepted_rests s (Edits (Load items)) h = cc
+  accepted_rests s (Edits (Push end item)) h = cc
+  accepted_rests s (Edits (Pop end)) h = cc
+  accepted_rests s (Edits (Swap i j)) h = cc
+  accepted_rests s (Edits (SwapRemove end index)) h = cc
   accepted_rests s (Edits MakeContiguous) h = (refl, refl)
-  accepted_rests s (Tests test predicate) h = absurd (with_busy (slice_get s.predicates predicate) (λ t. test_turn rule test t s.list) s.list (λ t. test_busy test t s.list) h)
-  accepted_rests s (Releases release bin) h = absurd (release_busy release s.list h)
-  accepted_rests s (Retain predicate bin) h = absurd (with_busy (slice_get s.predicates predicate) (λ t. retain_turn rule t s.list) s.list (λ t. false≢true) h)
-  accepted_rests s (Reads read) h = absurd (reading_busy read s.list h)
-  accepted_rests s IntoIter h = absurd (false≢true h)
-  accepted_rests s (Close bin) h = absurd (false≢true h)
+  accepted_rests s (Tests (PopIf end) predicate) h = absurd (either_way Busy (slice_get s.predicates predicate) (λ t. test_turn rule (PopIf end) t s.list) (unmade s.list) (λ e. cc) (λ t e. cc) h)
+  accepted_rests s (Tests (Change index) predicate) h = absurd (either_way Busy (slice_get s.predicates predicate) (λ t. test_turn rule (Change index) t s.list) (unmade s.list) (λ e. cc) (λ t e. cc) h)
+  accepted_rests s (Releases (Truncate len) bin) h = cc
+  accepted_rests s (Releases Clear bin) h = cc
+  accepted_rests s (Retain predicate bin) h = absurd (either_way Busy (slice_get s.predicates predicate) (λ t. retain_turn rule t s.list) (unmade s.list) (λ e. cc) (λ t e. cc) h)
+  accepted_rests s (Reads (Get index)) h = cc
+  accepted_rests s (Reads (AtEnd end)) h = cc
+  accepted_rests s (Reads Len) h = cc
+  accepted_rests s (Reads Capacity) h = cc
+  accepted_rests s (Reads IsEmpty) h = cc
+  accepted_rests s (Reads IsFull) h = cc
+  accepted_rests s (Reads Slices) h = cc
+  accepted_rests s (Reads (Walk ends)) h = cc
+  accepted_rests s IntoIter h = cc
+  accepted_rests s (Close bin) h = cc
 
   settled_rests : (s : Plain T P) (call : Call T) (o : Option Fault) → Rests s (turned rule capacity bin_count s call o)
   settled_rests s call (Some fault) h = (refl, refl)
@@ -97,7 +82,7 @@ module _ {T P : Type 0} (rule : P → T → Shown P T) (capacity bin_count : ℕ
   idle_rests s q =
       cond_both (made s.phase bin_count (length s.predicates) q.call) _ _ (Rests s)
       (λ _. settled_rests s q.call (refusal q.call capacity q.lent (length s.list)))
-      (λ _ h. absurd (false≢true h))
+      (λ _ h. cc)
 
   -- the requests that are left, once the idle ones are struck out
   abbrev pub effective_of : Plain T P → List (Request T) → List (Request T)
@@ -147,23 +132,14 @@ pub length_moved_at : {A : Type 0} (o : Option ℕ) (f : A → A) (xs : List A) 
 length_moved_at None f xs = refl
 length_moved_at (Some k) f xs = length_modified k f xs
 
-mapped : {A : Type 0} → (A → A) → Option A → Option A
-mapped f None = None
-mapped f (Some x) = Some (f x)
-
-nth_modified : {A : Type 0} (k i : ℕ) (f : A → A) (xs : List A) (x : A) → slice_get xs i ≡ Some x → slice_get (modified k f xs) i ≡ Some (cond (eqb i k) (f x) x)
-unfolding mapped
-nth_modified k i f [] x e = absurd (none≢some x e)
-nth_modified zero zero f (y ∷ xs) x e = ap (mapped f) e
+nth_modified : {A : Type 0} (k i : ℕ) (f : A → A) (xs : List A) (x : A) → slice_get xs i ≡ Some x → slice_get (modified k f xs) i ≡ Some (cond (i == k) (f x) x)
+nth_modified k i f [] x e = cc
+nth_modified zero zero f (y ∷ xs) x e = cc
 nth_modified zero (suc i) f (y ∷ xs) x e = e ∙ ap (λ v. Some (cond v (f x) x)) (sym (eqb-suc-zero i))
 nth_modified (suc k) zero f (y ∷ xs) x e = e ∙ ap (λ v. Some (cond v (f x) x)) (sym (eqb-zero-suc k))
 nth_modified (suc k) (suc i) f (y ∷ xs) x e = nth_modified k i f xs x e ∙ ap (λ v. Some (cond v (f x) x)) (sym (eqb-suc-suc i k))
 
 module _ {S T : Type 0} (takes : S → T → S) where
-  pub folded_append : (s : S) (xs ys : List T) → fold takes s (xs ++ ys) ≡ fold takes (fold takes s xs) ys
-  folded_append s [] ys = refl
-  folded_append s (x ∷ xs) ys = folded_append (takes s x) xs ys
-
   -- the bins after one of them, or none, took some items
   abbrev pub fed : Option ℕ → List T → List S → List S
   fed o items bs = moved_at o (λ s. fold takes s items) bs
@@ -172,7 +148,7 @@ module _ {S T : Type 0} (takes : S → T → S) where
   nth_fed None i items bs s e = e
   nth_fed (Some b) i items bs s e =
       nth_modified b i (λ s. fold takes s items) bs s e
-      ∙ elim (eqb i b) as (λ v. Some (cond v (fold takes s items) s) ≡ Some (fold takes s (cond v items []))) [ true ↦ refl | false ↦ refl ]
+      ∙ elim (i == b) as (λ v. Some (cond v (fold takes s items) s) ≡ Some (fold takes s (cond v items []))) [ true ↦ refl | false ↦ refl ]
 
   -- the bins beside the plain list
   module _ {P : Type 0} (rule : P → T → Shown P T) (capacity bin_count : ℕ) where
@@ -200,4 +176,4 @@ module _ {S T : Type 0} (takes : S → T → S) where
         let r = step rule capacity bin_count s q in
         let sent = cond (names b (bin_of q.call)) r.flow.binned [] in
         bins_fed (fed (bin_of q.call) r.flow.binned bs) r.after qs b (fold takes x sent) (nth_fed (bin_of q.call) b r.flow.binned bs x e)
-        ∙ ap Some (sym (folded_append x sent (all_binned_in rule capacity bin_count b r.after qs)))
+        ∙ ap Some (sym (fold-append takes x sent (all_binned_in rule capacity bin_count b r.after qs)))

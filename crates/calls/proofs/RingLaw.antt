@@ -1,10 +1,11 @@
 -- Each accepted call leaves a ring whose list is the edit of the list before.
-use Rattle.std.proofs.Common.{◌≡◌, ℕ, zero, ◌+◌, ◌-◌, ◌<◌, ◌≤◌, min, Bool, true, false, cond, eqb, ltb, List, [], ◌++◌, length, take, drop, Some, None, Option, sym, refl, ap, ◌∙◌, subst, inl, inr, mod-lt, arith, length-append, length-drop, length-set, length-take}
+use Rattle.std.proofs.Common.{◌≡◌, ℕ, zero, ◌+◌, ◌-◌, ◌<◌, ◌≤◌, min, Bool, true, false, cond, ◌==◌, nat_lt, List, [], ◌++◌, length, take, drop, Some, None, Option, sym, refl, ap, ◌∙◌, subst, inl, inr, mod-lt, arith, length-append, length-drop, length-set, length-take}
 use Rattle.std.specs.List.{slice_get, swap}
+use Rattle.std.specs.Option.{option_map_or}
 use Rattle.std.proofs.lemmas.List.Edits.{length-swap}
 use Rattle.std.proofs.lemmas.List.{take_at, take_all}
 use Rattle.std.proofs.lemmas.Option.{slice_get_past}
-use Rattle.std.proofs.lemmas.Bool.{cond_both, cases_lt, ltb-true, ltb-false, leb-false, eqb-true, eqb-false}
+use Rattle.std.proofs.lemmas.Bool.{cond_both, cases_lt, ltb-true, eqb-true, eqb-false}
 use Rattle.predicates.specs.Showing.{Shown, yes_to, left, stored, showings}
 use Rattle.places.specs.declared.Places.{Places}
 use Rattle.deque.specs.Sound.{Sound}
@@ -24,8 +25,8 @@ use Rattle.calls.specs.PlainList.{Turn, edit_turn, release_turn, test_turn, reta
 use Rattle.calls.specs.PlainList as plain_list
 use Rattle.calls.specs.RingAt.{Lies, lie, list_of, pops, releases, edits, tests, retains, lies_after}
 use Rattle.calls.specs.RingAt as ring_at
-use Rattle.calls.specs.declared.call.End.{End}
-use Rattle.calls.specs.declared.call.End.TheVariants.{Front, Back}
+use Rattle.places.specs.declared.End.{End}
+use Rattle.places.specs.declared.End.TheVariants.{Front, Back}
 use Rattle.calls.specs.declared.call.Edit.{Edit}
 use Rattle.calls.specs.declared.call.Edit.TheVariants.{Load, Push, Pop, Swap, SwapRemove, MakeContiguous}
 use Rattle.calls.specs.declared.call.Test.{Test}
@@ -34,7 +35,7 @@ use Rattle.calls.specs.declared.call.Release.{Release}
 use Rattle.calls.specs.declared.call.Release.TheVariants.{Truncate, Clear}
 use Rattle.calls.specs.declared.call.Call.{Call}
 use Rattle.calls.specs.declared.call.Call.TheVariants.{Edit as Edits, Test as Tests, Release as Releases, Retain, Read as Reads, IntoIter, Close}
-use Rattle.calls.proofs.Refusing.{none≢some, when_none, first_none}
+use Rattle.calls.proofs.Refusing.{load_fits, not_full, both_inside}
 
 -- a ring of this capacity that is sound, has its slots, and has this list
 pub record Good {T : Type 0} (capacity : ℕ) (r : Lies T) (l : List T) : Type 0 where
@@ -42,13 +43,6 @@ pub record Good {T : Type 0} (capacity : ℕ) (r : Lies T) (l : List T) : Type 0
   pub sound : Sound r.places
   pub same_capacity : r.places.capacity ≡ capacity
   pub enough : capacity ≤ length r.slots
-
-module _ {T : Type 0} where
-  good_list : {capacity : ℕ} {r : Lies T} (l l' : List T) → l ≡ l' → Good capacity r l → Good capacity r l'
-  good_list l l' e g = record { list = g.list ∙ e; sound = g.sound; same_capacity = g.same_capacity; enough = g.enough }
-
-  some_inside : (l : List T) (i : ℕ) (x : T) → slice_get l i ≡ Some x → i < length l
-  some_inside l i x e = elim (cases_lt i (length l)) [ inl h ↦ h | inr h ↦ absurd (none≢some x (sym (slice_get_past l i h) ∙ e)) ]
 
 module _ {T : Type 0} (p : Places) (xs : List T) (ok : Sound p) (enough : p.capacity ≤ length xs) where
   abbrev N : ℕ
@@ -72,7 +66,7 @@ module _ {T : Type 0} (p : Places) (xs : List T) (ok : Sound p) (enough : p.capa
 
   pub popped_good : (end : End) → Good N (lie (pops end p) xs) (popped end l).list
   popped_good Front =
-      cond_both (eqb p.len 0) p (placed p (slot p 1) (p.len - 1)) (λ q. Good N (lie q xs) (drop 1 l))
+      cond_both (p.len == 0) p (placed p (slot p 1) (p.len - 1)) (λ q. Good N (lie q xs) (drop 1 l))
       (λ e. let none = contents_none p xs ok enough (eqb-true p.len 0 e) in
       record { list = none ∙ sym (ap (drop 1) none); sound = ok; same_capacity = refl; enough = enough })
       (λ e. let some : 0 < p.len = elim (cases_lt 0 p.len) [ inl a ↦ a | inr a ↦ absurd (eqb-false p.len 0 e (omega arith)) ] in
@@ -85,7 +79,7 @@ module _ {T : Type 0} (p : Places) (xs : List T) (ok : Sound p) (enough : p.capa
   pub stored_good : (i : ℕ) (o : Option T) → (p.len ≤ i → o ≡ None) → Good N (lie p (stored o (slot p i) xs)) (stored o i l)
   stored_good i None h = stays
   stored_good i (Some x) h =
-      let inside : i < p.len = elim (cases_lt i p.len) [ inl a ↦ a | inr a ↦ absurd (none≢some x (sym (h a))) ] in
+      let inside : i < p.len = elim (cases_lt i p.len) [ inl a ↦ a | inr a ↦ cc (h a) ] in
       record { list = contents_set p xs ok enough i x inside; sound = ok; same_capacity = refl; enough = simp length-set enough }
 
   exchanged_good : (i j : ℕ) → i < p.len → j < p.len → Good N (lie p (swap xs (slot p i) (slot p j))) (swap l i j)
@@ -136,36 +130,34 @@ module _ {T : Type 0} (p : Places) (xs : List T) (ok : Sound p) (enough : p.capa
 
 module _ {T : Type 0} (p : Places) (xs : List T) (ok : Sound p) (enough : p.capacity ≤ length xs) where
   -- after an exchange, or none, and then a pop
-  swap_removed_good : (end : End) (i j : ℕ) → (i < p.len → j < p.len) → (b : Bool) → ltb i p.len ≡ b
+  swap_removed_good : (end : End) (i j : ℕ) → (i < p.len → j < p.len) → (b : Bool) → nat_lt i p.len ≡ b
       → Good p.capacity (lie (cond b (pops end p) p) (cond b (swap xs (slot p i) (slot p j)) xs)) (cond b (popped end (swap (contents p xs) i j)) (plain.edited None (contents p xs))).list
   swap_removed_good end i j inside true e =
       let hi = ltb-true i p.len e in
       let g = exchanged_good p xs ok enough i j hi (inside hi) in
-      good_list _ _ (ap (λ (l : List T). (popped end l).list) g.list) (popped_good p (swap xs (slot p i) (slot p j)) ok g.enough end)
+      subst (λ l. Good p.capacity (lie (pops end p) (swap xs (slot p i) (slot p j))) (popped end l).list) g.list (popped_good p (swap xs (slot p i) (slot p j)) ok g.enough end)
   swap_removed_good end i j inside false e = stays p xs ok enough
 
   edit_good : (edit : Edit T) (lent : ℕ) → edit_refusal edit p.capacity lent p.len ≡ None → Good p.capacity (edits edit p xs) (edit_turn edit (contents p xs)).list
   edit_good (Load items) lent h =
-      let both = first_none _ _ (first_none _ _ h).1 in
-      let none = ltb-false 0 p.len (when_none _ _ both.0) in
-      let fits = ltb-false p.capacity (length items.now) (when_none _ _ both.1) in
-      record { list = contents_load p ok xs items.now enough (omega arith) fits; sound = (omega arith, omega arith, omega arith); same_capacity = refl; enough = simp (length-append, length-drop) (omega arith) }
+      let fits = load_fits (length items.now) p.capacity lent p.len h in
+      record { list = contents_load p ok xs items.now enough fits.0 fits.1; sound = (omega arith, omega arith, omega arith); same_capacity = refl; enough = simp (length-append, length-drop) (omega arith) }
   edit_good (Push end item) lent h =
-      let ne = eqb-false p.len p.capacity (when_none _ _ (first_none _ _ h).1) in
+      let ne = not_full p.capacity lent p.len h in
       let room : p.len < p.capacity = elim (cases_lt p.len p.capacity) [ inl a ↦ a | inr a ↦ absurd (ne (omega arith)) ] in
       pushed_good p xs ok enough end item room
   edit_good (Pop end) lent h = popped_good p xs ok enough end
   edit_good (Swap i j) lent h =
-      let both = first_none _ _ (first_none _ _ h).1 in
-      exchanged_good p xs ok enough i j (leb-false p.len i (when_none _ _ both.0)) (leb-false p.len j (when_none _ _ both.1))
+      let both = both_inside i j p.capacity lent p.len h in
+      exchanged_good p xs ok enough i j both.0 both.1
   edit_good (SwapRemove Front index) lent h =
       let s = length_contents p xs ok enough in
-      subst (λ n. Good p.capacity (edits (SwapRemove Front index) p xs) (cond (ltb index n) (popped Front (swap (contents p xs) index 0)) (plain.edited None (contents p xs))).list) (sym s)
-      (swap_removed_good Front index 0 (λ i. omega arith) (ltb index p.len) refl)
+      subst (λ n. Good p.capacity (edits (SwapRemove Front index) p xs) (cond (nat_lt index n) (popped Front (swap (contents p xs) index 0)) (plain.edited None (contents p xs))).list) (sym s)
+      (swap_removed_good Front index 0 (λ i. omega arith) (nat_lt index p.len) refl)
   edit_good (SwapRemove Back index) lent h =
       let s = length_contents p xs ok enough in
-      subst (λ n. Good p.capacity (edits (SwapRemove Back index) p xs) (cond (ltb index n) (popped Back (swap (contents p xs) index (n - 1))) (plain.edited None (contents p xs))).list) (sym s)
-      (swap_removed_good Back index (p.len - 1) (λ i. omega arith) (ltb index p.len) refl)
+      subst (λ n. Good p.capacity (edits (SwapRemove Back index) p xs) (cond (nat_lt index n) (popped Back (swap (contents p xs) index (n - 1))) (plain.edited None (contents p xs))).list) (sym s)
+      (swap_removed_good Back index (p.len - 1) (λ i. omega arith) (nat_lt index p.len) refl)
   edit_good MakeContiguous lent h = gathered_good p xs ok enough
 
   release_good : (release : Release) → Good p.capacity (lie (releases release p) xs) (release_turn release (contents p xs)).list
@@ -173,19 +165,17 @@ module _ {T : Type 0} (p : Places) (xs : List T) (ok : Sound p) (enough : p.capa
   release_good Clear = cleared_good p xs ok enough
 
 module _ {T P : Type 0} (rule : P → T → Shown P T) (s : P) (p : Places) (xs : List T) (ok : Sound p) (enough : p.capacity ≤ length xs) where
-  left_none : (o : Option T) → o ≡ None → left rule s o ≡ None
-  left_none o e = ap (left rule s) e
-
   -- an item shown at i is stored as left
   shown_good : (i : ℕ) → Good p.capacity (lie p (stored (left rule s (slice_get (contents p xs) i)) (slot p i) xs)) (stored (left rule s (slice_get (contents p xs) i)) i (contents p xs))
-  shown_good i = stored_good p xs ok enough i (left rule s (slice_get (contents p xs) i)) (λ h. left_none (slice_get (contents p xs) i) (slice_get_past (contents p xs) i (omega (arith, length_contents p xs ok enough))))
+  shown_good i = stored_good p xs ok enough i (left rule s (slice_get (contents p xs) i)) (λ h. ap (left rule s) (slice_get_past (contents p xs) i (omega (arith, length_contents p xs ok enough))))
 
   -- and a yes pops it
   tested_good : (end : End) (i : ℕ) (b : Bool) → let after = stored (left rule s (slice_get (contents p xs) i)) i (contents p xs) in
       Good p.capacity (lie (cond b (pops end p) p) (stored (left rule s (slice_get (contents p xs) i)) (slot p i) xs)) (cond b (popped end after) (plain.edited None after)).list
   tested_good end i true =
       let g = shown_good i in
-      good_list _ _ (ap (λ (l : List T). (popped end l).list) g.list) (popped_good p (stored (left rule s (slice_get (contents p xs) i)) (slot p i) xs) ok g.enough end)
+      let ys = stored (left rule s (slice_get (contents p xs) i)) (slot p i) xs in
+      subst (λ l. Good p.capacity (lie (pops end p) ys) (popped end l).list) g.list (popped_good p ys ok g.enough end)
   tested_good end i false = shown_good i
 
   test_good : (test : Test) → Good p.capacity (tests rule test s p xs) (test_turn rule test s (contents p xs)).list
@@ -205,7 +195,7 @@ module _ {T P : Type 0} (rule : P → T → Shown P T) (s : P) (p : Places) (xs 
 
 module _ {T P : Type 0} (rule : P → T → Shown P T) (p : Places) (xs : List T) (ok : Sound p) (enough : p.capacity ≤ length xs) where
   with_good : (o : Option P) (does : P → Turn T) (leaves : P → Lies T) → ((s : P) → Good p.capacity (leaves s) (does s).list)
-      → Good p.capacity (ring_at.with_predicate rule o leaves p xs) (plain_list.with_predicate rule o does (contents p xs)).list
+      → Good p.capacity (option_map_or leaves o (lie p xs)) (option_map_or does o (plain_list.unmade (contents p xs))).list
   with_good None does leaves h = stays p xs ok enough
   with_good (Some s) does leaves h = h s
 

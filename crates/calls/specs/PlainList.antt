@@ -1,17 +1,18 @@
 -- The plain list: what each call is for a list of items, front to back, with predicates beside it.
 -- It is fed the capacity, how many bins there are, what the calls bring, and how many slots they are lent.
-use Rattle.std.specs.Prelude.{ℕ, zero, suc, Bool, false, cond, List, [], ◌∷◌, ◌++◌, map, length, Some, None, Option, ◌==◌}
+use Rattle.std.specs.Prelude.{ℕ, zero, suc, Bool, false, cond, List, [], ◌∷◌, ◌++◌, map, length, Some, None, Ok, Err, Option, ◌==◌}
 use Rattle.std.specs.List.{slice_get}
-use Rattle.std.specs.Option.{option_to_list}
+use Rattle.std.specs.Option.{option_to_list, option_map_or}
 use Rattle.fault.specs.declared.Fault.{Fault}
 use Rattle.fault.specs.Refusing.{unless}
 use Rattle.predicates.specs.Showing.{Shown, left, moved, showings, after}
 use Rattle.deque.specs.Plain as plain
 use Rattle.calls.specs.Calls.{Phase, bin_of, predicate_of, next_phase, refusal, brings, made}
 use Rattle.calls.specs.Answers.{Heard, said, slices, walked, unless_refused}
-use Rattle.calls.specs.declared.answer.Answer.TheVariants.{Unmade, Done, Item, Verdict, Number, Flag, Contiguous}
-use Rattle.calls.specs.declared.call.End.{End}
-use Rattle.calls.specs.declared.call.End.TheVariants.{Front, Back}
+use Rattle.calls.specs.declared.answer.Value.TheVariants.{Done, Item, Verdict, Number, Flag, Contiguous}
+use Rattle.calls.specs.declared.answer.NotDone.TheVariants.{Unmade}
+use Rattle.places.specs.declared.End.{End}
+use Rattle.places.specs.declared.End.TheVariants.{Front, Back}
 use Rattle.calls.specs.declared.call.Edit.{Edit}
 use Rattle.calls.specs.declared.call.Edit.TheVariants.{Load, Push, Pop, Swap, SwapRemove, MakeContiguous}
 use Rattle.calls.specs.declared.call.Test.{Test}
@@ -54,12 +55,15 @@ module _ {T : Type 0} where
   abbrev pub comes_to : Heard T → List T → Flow T → Turn T
   comes_to answer l flow = record { answer = answer; list = l; flow = flow }
 
+  abbrev pub unmade : List T → Turn T
+  unmade l = comes_to (said (Err Unmade)) l nothing
+
   -- a call that hands out an item, or none; and one that bins items, and answers how many
   abbrev pub hands_out : plain.Edit (Option T) T → Turn T
-  hands_out e = comes_to (said (Item e.answer)) e.list (hands (option_to_list e.answer))
+  hands_out e = comes_to (said (Ok (Item e.answer))) e.list (hands (option_to_list e.answer))
 
   abbrev pub lets_go : plain.Edit ℕ T → Turn T
-  lets_go e = comes_to (said (Number e.answer)) e.list (bins e.binned)
+  lets_go e = comes_to (said (Ok (Number e.answer))) e.list (bins e.binned)
 
   -- the calls that come in two, by their end
   abbrev pub item_at : End → List T → Option T
@@ -79,12 +83,12 @@ module _ {T : Type 0} where
   swap_removed Back i l = plain.swap_remove_back i l
 
   abbrev pub edit_turn : Edit T → List T → Turn T
-  edit_turn (Load items) l = comes_to (said Done) (plain.load items.now l).list (takes items.now)
-  edit_turn (Push end item) l = comes_to (said Done) (pushed end item l).list (takes (item ∷ []))
+  edit_turn (Load items) l = comes_to (said (Ok Done)) (plain.load items.now l).list (takes items.now)
+  edit_turn (Push end item) l = comes_to (said (Ok Done)) (pushed end item l).list (takes (item ∷ []))
   edit_turn (Pop end) l = hands_out (popped end l)
-  edit_turn (Swap i j) l = comes_to (said Done) (plain.swap i j l).list nothing
+  edit_turn (Swap i j) l = comes_to (said (Ok Done)) (plain.swap i j l).list nothing
   edit_turn (SwapRemove end index) l = hands_out (swap_removed end index l)
-  edit_turn MakeContiguous l = comes_to (said (Contiguous 0 (length l))) l nothing
+  edit_turn MakeContiguous l = comes_to (said (Ok (Contiguous 0 (length l)))) l nothing
 
   abbrev pub release_turn : Release → List T → Turn T
   release_turn (Truncate len) l = lets_go (plain.truncate len l)
@@ -96,12 +100,12 @@ module _ {T : Type 0} where
   walk (end ∷ ends) l = (popped end l).answer ∷ walk ends (popped end l).list
 
   abbrev pub reading : (capacity : ℕ) → Read → List T → Heard T
-  reading capacity (Get index) l = said (Item (plain.get index l))
-  reading capacity (AtEnd end) l = said (Item (item_at end l))
-  reading capacity Len l = said (Number (length l))
-  reading capacity Capacity l = said (Number capacity)
-  reading capacity IsEmpty l = said (Flag (length l == 0))
-  reading capacity IsFull l = said (Flag (length l == capacity))
+  reading capacity (Get index) l = said (Ok (Item (plain.get index l)))
+  reading capacity (AtEnd end) l = said (Ok (Item (item_at end l)))
+  reading capacity Len l = said (Ok (Number (length l)))
+  reading capacity Capacity l = said (Ok (Number capacity))
+  reading capacity IsEmpty l = said (Ok (Flag (length l == 0)))
+  reading capacity IsFull l = said (Ok (Flag (length l == capacity)))
   reading capacity Slices l = slices 0 l []
   reading capacity (Walk ends) l = walked (walk ends.now l)
 
@@ -122,29 +126,24 @@ module _ {T P : Type 0} (rule : P → T → Shown P T) where
   abbrev pub test_turn : Test → P → List T → Turn T
   test_turn (PopIf end) s l =
       let e : plain.Edit (Option T) T = popped_if end s l in
-      comes_to (said (Item e.answer)) e.list (shows s (item_at end l) (option_to_list e.answer))
+      comes_to (said (Ok (Item e.answer))) e.list (shows s (item_at end l) (option_to_list e.answer))
   test_turn (Change index) s l =
       let e : plain.Edit (Option Bool) T = plain.change rule s index l in
-      comes_to (said (Verdict e.answer)) e.list (shows s (plain.get index l) [])
+      comes_to (said (Ok (Verdict e.answer))) e.list (shows s (plain.get index l) [])
 
   abbrev pub retain_turn : P → List T → Turn T
   retain_turn s l =
       let e : plain.Edit ℕ T = plain.retain rule s l in
-      comes_to (said (Number e.answer)) e.list (record { taken = []; handed = []; binned = e.binned; found = l; left = map (λ w. w.item) (showings rule s l) })
+      comes_to (said (Ok (Number e.answer))) e.list (record { taken = []; handed = []; binned = e.binned; found = l; left = map (λ w. w.item) (showings rule s l) })
 
-  -- a call that uses a predicate: without one it comes to nothing
-  abbrev pub with_predicate : Option P → (P → Turn T) → List T → Turn T
-  with_predicate None turn l = comes_to (said Unmade) l nothing
-  with_predicate (Some s) turn l = turn s
-
-  -- what each accepted call comes to
+  -- what each accepted call comes to: without its predicate to nothing
   abbrev pub turn : (capacity : ℕ) → Call T → List P → List T → Turn T
   turn capacity (Edits edit) ps l = edit_turn edit l
-  turn capacity (Tests test predicate) ps l = with_predicate (slice_get ps predicate) (λ s. test_turn test s l) l
+  turn capacity (Tests test predicate) ps l = option_map_or (λ s. test_turn test s l) (slice_get ps predicate) (unmade l)
   turn capacity (Releases release bin) ps l = release_turn release l
-  turn capacity (Retain predicate bin) ps l = with_predicate (slice_get ps predicate) (λ s. retain_turn s l) l
+  turn capacity (Retain predicate bin) ps l = option_map_or (λ s. retain_turn s l) (slice_get ps predicate) (unmade l)
   turn capacity (Reads read) ps l = comes_to (reading capacity read l) l nothing
-  turn capacity IntoIter ps l = comes_to (said Done) l nothing
+  turn capacity IntoIter ps l = comes_to (said (Ok Done)) l nothing
   turn capacity (Close bin) ps l = lets_go (plain.clear l)
 
   -- the state of its predicate after a call on the list l
@@ -202,7 +201,7 @@ module _ {T P : Type 0} (rule : P → T → Shown P T) (capacity bin_count : ℕ
   step s q =
       cond (made s.phase bin_count (length s.predicates) q.call)
       (turned s q.call (refusal q.call capacity q.lent (length s.list)))
-      (record { after = s; answer = said Unmade; flow = nothing })
+      (record { after = s; answer = said (Err Unmade); flow = nothing })
 
   -- a list of requests, one after another
   abbrev pub run : Plain T P → List (Request T) → Plain T P

@@ -1,6 +1,7 @@
 -- The ring: its places and slots, with bins and predicates beside it, and where each call leaves them.
-use Rattle.std.specs.Prelude.{ℕ, ◌-◌, cond, List, [], ◌∷◌, length, Some, None, fold, Option}
+use Rattle.std.specs.Prelude.{ℕ, ◌-◌, cond, List, [], ◌∷◌, length, Err, fold, Option}
 use Rattle.std.specs.List.{slice_get}
+use Rattle.std.specs.Option.{option_map_or}
 use Rattle.fault.specs.declared.Fault.{Fault}
 use Rattle.fault.specs.Refusing.{unless}
 use Rattle.predicates.specs.Showing.{Shown, yes_to, left}
@@ -11,12 +12,11 @@ use Rattle.deque.specs.Plain as plain
 use Rattle.deque.specs.Moves as moves
 use Rattle.deque.specs.Writes as writes
 use Rattle.calls.specs.Calls.{Phase, bin_of, predicate_of, next_phase, refusal, brings, made}
-use Rattle.calls.specs.Answers.{Heard, said, slices, walked, unless_refused}
+use Rattle.calls.specs.Answers.{Heard, said, slices, walked, unless_refused, answer_from}
 use Rattle.calls.specs.PlainList.{Plain, Turn, turn, next_state, moved_at}
-use Rattle.calls.specs.declared.answer.Answer.{Answer}
-use Rattle.calls.specs.declared.answer.Answer.TheVariants.{Unmade, Refused, Done, Item, Verdict, Number, Flag, Contiguous}
-use Rattle.calls.specs.declared.call.End.{End}
-use Rattle.calls.specs.declared.call.End.TheVariants.{Front, Back}
+use Rattle.calls.specs.declared.answer.NotDone.TheVariants.{Unmade}
+use Rattle.places.specs.declared.End.{End}
+use Rattle.places.specs.declared.End.TheVariants.{Front, Back}
 use Rattle.calls.specs.declared.call.Edit.{Edit}
 use Rattle.calls.specs.declared.call.Edit.TheVariants.{Load, Push, Pop, Swap, SwapRemove, MakeContiguous}
 use Rattle.calls.specs.declared.call.Test.{Test}
@@ -65,18 +65,8 @@ module _ {T : Type 0} where
   edits MakeContiguous p xs = lie (moves.make_contiguous p) (writes.make_contiguous p xs)
 
   -- what the ring answers where the plain list does not know: the new front, and the slots in which two slices lie
-  abbrev pub answer_told : Places → Answer T → Answer T
-  answer_told p Unmade = Unmade
-  answer_told p (Refused fault item) = Refused fault item
-  answer_told p Done = Done
-  answer_told p (Item item) = Item item
-  answer_told p (Verdict verdict) = Verdict verdict
-  answer_told p (Number number) = Number number
-  answer_told p (Flag flag) = Flag flag
-  answer_told p (Contiguous front len) = Contiguous (new_front p) len
-
   abbrev pub told : Places → List T → Heard T → Heard T
-  told p xs (said answer) = said (answer_told p answer)
+  told p xs (said answer) = said (answer_from (new_front p) answer)
   told p xs (slices front first second) = slices p.front (parts.slices p xs).0 (parts.slices p xs).1
   told p xs (walked items) = walked items
 
@@ -99,17 +89,12 @@ module _ {T P : Type 0} (rule : P → T → Shown P T) where
       let e : plain.Edit ℕ T = plain.retain rule s (contents p xs) in
       lie (moves.retain (length e.list) p) (writes.retain e.list e.binned p xs)
 
-  -- without a predicate they leave all as it was
-  abbrev pub with_predicate : Option P → (P → Lies T) → Places → List T → Lies T
-  with_predicate None leaves p xs = lie p xs
-  with_predicate (Some s) leaves p xs = leaves s
-
-  -- where each accepted call leaves the ring
+  -- where each accepted call leaves the ring: without its predicate as it was
   abbrev pub lies_after : Call T → List P → Places → List T → Lies T
   lies_after (Edits edit) ps p xs = edits edit p xs
-  lies_after (Tests test predicate) ps p xs = with_predicate (slice_get ps predicate) (λ s. tests test s p xs) p xs
+  lies_after (Tests test predicate) ps p xs = option_map_or (λ s. tests test s p xs) (slice_get ps predicate) (lie p xs)
   lies_after (Releases release bin) ps p xs = lie (releases release p) xs
-  lies_after (Retain predicate bin) ps p xs = with_predicate (slice_get ps predicate) (λ s. retains s p xs) p xs
+  lies_after (Retain predicate bin) ps p xs = option_map_or (λ s. retains s p xs) (slice_get ps predicate) (lie p xs)
   lies_after (Reads read) ps p xs = lie p xs
   lies_after IntoIter ps p xs = lie p xs
   lies_after (Close bin) ps p xs = lie (moves.clear p) xs
@@ -151,7 +136,7 @@ module _ {T S P : Type 0} (takes : S → T → S) (rule : P → T → Shown P T)
   step m q =
       cond (made m.phase (length m.bins) (length m.predicates) q.call)
       (acts m q.call (refusal q.call m.lies.places.capacity q.lent m.lies.places.len))
-      (record { after = m; answer = said Unmade })
+      (record { after = m; answer = said (Err Unmade) })
 
   -- a list of requests, one after another
   abbrev pub run : Moment T S P → List (Request T) → Moment T S P

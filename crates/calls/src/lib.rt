@@ -4,5 +4,6 @@
 pub mod answer;
 pub mod call;
 
-pub use answer::Answer;
-pub use call::{Call, Edit, End, Read, Release, Request, Test};
+pub use answer::{Answer, NotDone, Value};
+pub use call::{Call, Edit, Read, Release, Request, Test};
+pub use places::End;

@@ -1,5 +1,3 @@
 pub mod Turns
+pub mod Lookups
 pub mod Lent
-pub mod Arms
-pub mod Draining
-pub mod Answered

@@ -1,28 +1,28 @@
--- What a call of a ring answered, as the answer to a request; and what is heard of an answer.
-use Rattle.std.specs.Prelude.{List, [], ◌∷◌, map, Some, None, Ok, Err, Result}
+-- What is told of an answer, and what is heard of it.
+use Rattle.std.specs.Prelude.{List, [], ◌∷◌, map, None, Ok, Err, Result}
 use Rattle.std.specs.List.{flat_map}
 use Rattle.fault.specs.declared.Fault.{Fault}
-use Rattle.fault.specs.declared.Returned.{Returned}
+use Rattle.walk.specs.Walks.{ahead}
 use Rattle.calls.specs.Answers.{Heard, said, slices, walked}
-use Rattle.calls.specs.declared.answer.Answer.{Answer}
-use Rattle.calls.specs.declared.answer.Answer.TheVariants.{Refused, Done, Item}
+use Rattle.calls.specs.PlainList.{walk}
+use Rattle.calls.specs.declared.answer.NotDone.TheVariants.{Refused}
+use Rattle.calls.specs.declared.answer.Value.TheVariants.{Item}
+use Rattle.history.specs.declared.reads.Reading.{Reading}
+use Rattle.history.specs.declared.reads.Reading.TheVariants as ReadingIs
 
 module _ {T : Type 0} where
-  -- a fault, or what the answer makes
-  abbrev pub answer_of : {A : Type 0} → (A → Answer T) → Result A Fault → Answer T
-  answer_of makes (Ok value) = makes value
-  answer_of makes (Err fault) = Refused fault None
-
-  -- the same of a push, whose refusal gives the item back
-  abbrev pub push_answer_of : Result (Unit {0}) (Returned T) → Answer T
-  push_answer_of (Ok value) = Done
-  push_answer_of (Err returned) = Refused returned.fault (Some returned.item)
-
   -- what a listener hears of an answer: of a walk, each item that it came to
   abbrev pub heard : Heard T → List (Heard T)
   heard (said answer) = said answer ∷ []
   heard (slices front first second) = slices front first second ∷ []
-  heard (walked items) = map (λ o. said (Item o)) items
+  heard (walked items) = map (λ o. said (Ok (Item o))) items
+
+  -- what a read came to, or its refusal, as it is told
+  abbrev pub told_of : Result (Reading T) Fault → Heard T
+  told_of (Ok (ReadingIs.Value value)) = said (Ok value)
+  told_of (Ok (ReadingIs.Slices front first second)) = slices front first.now second.now
+  told_of (Ok (ReadingIs.Walk iter ends)) = walked (walk ends.now (ahead iter))
+  told_of (Err fault) = said (Err (Refused fault None))
 
   abbrev pub all_heard : List (Heard T) → List (Heard T)
   all_heard answers = flat_map heard answers

@@ -1,3 +1,3 @@
 pub mod Answering
-pub mod Draining
 pub mod Standing
+pub mod Calling

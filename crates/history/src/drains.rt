@@ -1,49 +1,40 @@
-// What may be asked of a drain, made on the slots that it is lent.
-ghost use Rattle.std.specs.Prelude.{◌≡◌, length, None};
-ghost use Rattle.fault.specs.Refusing.{unless};
-ghost use Rattle.deque.specs.Ring.{contents, at};
-ghost use Rattle.deque.specs.Refusals as refusal;
-ghost use Rattle.calls.specs.Answers.{said, unless_refused};
-ghost use Rattle.calls.specs.PlainList.{popped};
-ghost use Rattle.calls.specs.RingAt.{pops};
-ghost use Rattle.calls.specs.declared.answer.Answer.TheVariants as answers;
-ghost use Rattle.history.specs.Draining.{drain_call};
+// The call that moves a ring into a drain, and the calls of a drain.
+ghost use Rattle.std.specs.Prelude.{◌≡◌, []};
+ghost use Rattle.calls.specs.Calls.{ring as at_ring, drain as at_drain};
+ghost use Rattle.calls.specs.declared.call.Call.TheVariants as call_is;
+ghost use Rattle.calls.specs.declared.call.Edit.TheVariants as edit_is;
+ghost use Rattle.calls.specs.declared.call.Read.TheVariants as read_is;
+ghost use Rattle.history.specs.Calling.{left_with, called, no_bin, no_predicate};
+ghost use Rattle.history.specs.Standing.{phase_of, places_of};
 
-use crate::answers::item;
-use crate::drained::DrainCall;
-use calls::{Answer, Call, Edit, End, Read};
-use deque::IntoIter;
+use crate::stage::Stage;
+use calls::{Answer, End, NotDone, Value};
+use deque::{CloseToken, Deque, IntoIter};
 
-pub(crate) fn drain_call<T: Copy>(call: &Call<'_, T>) -> Option<DrainCall>
-    ensures { result ≡ drain_call call.now }
+pub(crate) fn into_iter<T: Copy>(ring: Deque, token: CloseToken, slots: &[T]) -> (Stage, Answer<T>)
+    ensures { left_with (phase_of result.0) (places_of result.0) slots.now [] [] result.1 ≡ called no_bin no_predicate at_ring ring.places slots.now [] [] call_is.IntoIter }
 {
-    match call {
-        Call::Edit(Edit::Pop(end)) => Some(DrainCall::Next(*end)),
-        Call::Edit(Edit::Load(_))
-        | Call::Edit(Edit::Push(_, _))
-        | Call::Edit(Edit::Swap(_, _))
-        | Call::Edit(Edit::SwapRemove(_, _))
-        | Call::Edit(Edit::MakeContiguous) => None,
-        Call::Test { .. } | Call::Release { .. } | Call::Retain { .. } | Call::IntoIter => None,
-        Call::Read(Read::Len) => Some(DrainCall::Len),
-        Call::Read(Read::Get(_))
-        | Call::Read(Read::AtEnd(_))
-        | Call::Read(Read::Capacity)
-        | Call::Read(Read::IsEmpty)
-        | Call::Read(Read::IsFull)
-        | Call::Read(Read::Slices)
-        | Call::Read(Read::Walk(_)) => None,
-        Call::Close { bin } => Some(DrainCall::Finish { bin: *bin }),
+    match ring.into_iter(slots) {
+        Ok(drain) => (Stage::Drain(drain, token), Ok(Value::Done)),
+        Err(returned) => (
+            Stage::Ring(returned.given, token),
+            Err(NotDone::from(returned.fault)),
+        ),
     }
 }
 
 // The next item from an end.
 pub(crate) fn next<T: Copy>(drain: &mut IntoIter, slots: &[T], end: End) -> Answer<T>
-    ensures places { let p = drain.old.ring.places in let xs = slots.now in drain.new.ring.places ≡ unless (at p xs refusal.slots) p (pops end p) }
-    ensures answer { let p = drain.old.ring.places in let xs = slots.now in said result ≡ unless_refused (at p xs refusal.slots) None (said (answers.Item (popped end (contents p xs)).answer)) }
+    ensures { left_with at_drain drain.new.ring.places slots.now [] [] result ≡ called no_bin no_predicate at_drain drain.old.ring.places slots.now [] [] (call_is.Edit (edit_is.Pop end)) }
 {
     match end {
-        End::Front => item(drain.next(slots)),
-        End::Back => item(drain.next_back(slots)),
+        End::Front => Ok(Value::Item(drain.next(slots)?)),
+        End::Back => Ok(Value::Item(drain.next_back(slots)?)),
     }
+}
+
+pub(crate) fn len<T: Copy>(drain: &IntoIter, slots: &[T]) -> Answer<T>
+    ensures { left_with at_drain drain.now.ring.places slots.now [] [] result ≡ called no_bin no_predicate at_drain drain.now.ring.places slots.now [] [] (call_is.Read read_is.Len) }
+{
+    Ok(Value::Number(drain.len(slots)?))
 }

@@ -1,12 +1,8 @@
 // Whole histories of a ring: any list of calls, carried out one after another, and the law that holds at every moment.
 #![tactic(auto)]
 
-mod answers;
-mod drained;
 mod drains;
 mod edits;
-mod ending;
-mod ends;
 pub mod listener;
 mod reads;
 pub mod running;

@@ -1,29 +1,27 @@
-// The calls that read a ring, made on the slots that they are lent.
-ghost use Rattle.std.specs.Prelude.{◌≡◌, List, map, length, None, fold};
-ghost use Rattle.std.specs.Option as options;
-ghost use Rattle.deque.specs.Ring.{contents, at};
-ghost use Rattle.deque.specs.Refusals as refusal;
-ghost use Rattle.calls.specs.Answers.{said, walked, unless_refused};
-ghost use Rattle.calls.specs.PlainList.{popped, reading};
+// The calls that read a ring.
+ghost use Rattle.std.specs.Prelude.{◌≡◌, [], fold};
+ghost use Rattle.calls.specs.Answers.{walked};
+ghost use Rattle.calls.specs.Calls.{ring as at_ring};
+ghost use Rattle.calls.specs.PlainList.{popped};
 ghost use Rattle.calls.specs.PlainList as plain_list;
-ghost use Rattle.calls.specs.RingAt.{told};
-ghost use Rattle.calls.specs.declared.call.Read.TheVariants as read_is;
+ghost use Rattle.calls.specs.declared.call.Call.TheVariants as call_is;
 ghost use Rattle.walk.specs.Walks.{ahead};
-ghost use Rattle.history.specs.Answering.{heard};
+ghost use Rattle.history.specs.Answering.{heard, told_of};
+ghost use Rattle.history.specs.Calling.{called, no_bin, no_predicate};
 
-use crate::answers::{flag, item, number};
 use crate::listener::Listener;
-use calls::{Answer, End, Read};
+use calls::{End, NotDone, Read, Value};
 use deque::Deque;
+use fault::Fault;
 use walk::Iter;
 
-fn copied<T: Copy>(item: Option<&T>) -> Option<T>
-    ensures { result ≡ options.option_map (λ x. x.now) item.entry }
-{
-    match item {
-        Some(item) => Some(*item),
-        None => None,
-    }
+// What a read came to, before it is told.
+enum Reading<'a, T> {
+    Value(Value<T>),
+    // where the first slice begins, and both
+    Slices(usize, &'a [T], &'a [T]),
+    // the walk, and the ends from which it takes its items
+    Walk(Iter<'a, T>, &'a [End]),
 }
 
 // The next item from an end.
@@ -32,38 +30,38 @@ fn take<T: Copy>(iter: &mut Iter<'_, T>, end: End) -> Option<T>
     ensures rest { ahead iter.new ≡ (popped end (ahead iter.old)).list }
 {
     match end {
-        End::Front => copied(iter.next()),
-        End::Back => copied(iter.next_back()),
+        End::Front => iter.next().copied(),
+        End::Back => iter.next_back().copied(),
     }
 }
 
 // Takes an item from each of these ends in turn.
-fn hear_walk<T: Copy, L: Listener<T>>(iter: Iter<'_, T>, ends: &[End], listener: &mut L)
+fn hear_walk<T: Copy, L: Listener<T>>(mut iter: Iter<'_, T>, ends: &[End], listener: &mut L)
     ensures { L.state listener.new ≡ fold L.rule (L.state listener.old) (heard (walked (plain_list.walk ends.now (ahead iter.entry)))) }
 {
-    let mut iter = iter;
     for end in ends {
-        let item = take(&mut iter, *end);
-        listener.hear(Answer::Item(item));
+        listener.hear(Ok(Value::Item(take(&mut iter, *end))));
     }
 }
 
-fn slices<T: Copy, L: Listener<T>>(ring: &Deque, slots: &[T], listener: &mut L)
-    ensures { let p = ring.now.places in let xs = slots.now in L.state listener.new ≡ fold L.rule (L.state listener.old) (heard (unless_refused (at p xs refusal.slots) None (told p xs (reading p.capacity read_is.Slices (contents p xs))))) }
+// What the ring shows to a read.
+fn look<'a, T: Copy>(ring: &Deque, read: &Read<'a>, slots: &'a [T]) -> Result<Reading<'a, T>, Fault>
+    ensures { told_of result ≡ (called no_bin no_predicate at_ring ring.now.places slots.now [] [] (call_is.Read read.now)).answer }
 {
-    match ring.as_slices(slots) {
-        Ok((first, second)) => listener.hear_slices(ring.places().front(), first, second),
-        Err(fault) => listener.hear(Answer::Refused(fault, None)),
-    }
-}
-
-fn walk<T: Copy, L: Listener<T>>(ring: &Deque, ends: &[End], slots: &[T], listener: &mut L)
-    ensures { let p = ring.now.places in let xs = slots.now in L.state listener.new ≡ fold L.rule (L.state listener.old) (heard (unless_refused (at p xs refusal.slots) None (walked (plain_list.walk ends.now (contents p xs))))) }
-{
-    match ring.iter(slots) {
-        Ok(iter) => hear_walk(iter, ends, listener),
-        Err(fault) => listener.hear(Answer::Refused(fault, None)),
-    }
+    Ok(match read {
+        Read::Get(index) => Reading::Value(Value::Item(ring.get(slots, *index)?)),
+        Read::AtEnd(End::Front) => Reading::Value(Value::Item(ring.front(slots)?)),
+        Read::AtEnd(End::Back) => Reading::Value(Value::Item(ring.back(slots)?)),
+        Read::Len => Reading::Value(Value::Number(ring.len(slots)?)),
+        Read::Capacity => Reading::Value(Value::Number(ring.capacity(slots)?)),
+        Read::IsEmpty => Reading::Value(Value::Flag(ring.is_empty(slots)?)),
+        Read::IsFull => Reading::Value(Value::Flag(ring.is_full(slots)?)),
+        Read::Slices => {
+            let (first, second) = ring.as_slices(slots)?;
+            Reading::Slices(ring.places().front(), first, second)
+        }
+        Read::Walk(ends) => Reading::Walk(ring.iter(slots)?, ends),
+    })
 }
 
 pub(crate) fn read<T: Copy, L: Listener<T>>(
@@ -72,17 +70,12 @@ pub(crate) fn read<T: Copy, L: Listener<T>>(
     slots: &[T],
     listener: &mut L,
 )
-    ensures { let p = ring.now.places in let xs = slots.now in L.state listener.new ≡ fold L.rule (L.state listener.old) (heard (unless_refused (at p xs refusal.slots) None (told p xs (reading p.capacity read.now (contents p xs))))) }
+    ensures { let h = called no_bin no_predicate at_ring ring.now.places slots.now [] [] (call_is.Read read.now) in L.state listener.new ≡ fold L.rule (L.state listener.old) (heard h.answer) }
 {
-    match read {
-        Read::Get(index) => listener.hear(item(ring.get(slots, *index))),
-        Read::AtEnd(End::Front) => listener.hear(item(ring.front(slots))),
-        Read::AtEnd(End::Back) => listener.hear(item(ring.back(slots))),
-        Read::Len => listener.hear(number(ring.len(slots))),
-        Read::Capacity => listener.hear(number(ring.capacity(slots))),
-        Read::IsEmpty => listener.hear(flag(ring.is_empty(slots))),
-        Read::IsFull => listener.hear(flag(ring.is_full(slots))),
-        Read::Slices => slices(ring, slots, listener),
-        Read::Walk(ends) => walk(ring, ends, slots, listener),
+    match look(ring, read, slots) {
+        Ok(Reading::Value(value)) => listener.hear(Ok(value)),
+        Ok(Reading::Slices(front, first, second)) => listener.hear_slices(front, first, second),
+        Ok(Reading::Walk(iter, ends)) => hear_walk(iter, ends, listener),
+        Err(fault) => listener.hear(Err(NotDone::from(fault))),
     }
 }
