@@ -1,5 +1,5 @@
 // The lines of a script.
-ghost use Rattle.std.specs.Prelude.{◌≡◌, ℕ, ◌<◌, ◌≤◌, length};
+ghost use Rattle.std.specs.Prelude.{◌≤◌, length};
 ghost use Rattle.std.specs.Iterator.{at_most};
 
 #[derive(Clone, Copy)]
@@ -14,18 +14,6 @@ pub struct Line<'a> {
 pub struct Lines<'a> {
     rest: &'a [u8],
     number: usize,
-}
-
-// How many bytes stand before the first line feed.
-fn line_length(text: &[u8]) -> usize
-    ensures { result ≤ length text.now }
-{
-    for (i, b) in text.iter().enumerate() {
-        if *b == b'\n' {
-            return i;
-        }
-    }
-    text.len()
 }
 
 impl<'a> Lines<'a> {
@@ -43,17 +31,19 @@ impl<'a> Iterator for Lines<'a> {
     ghost remaining = { λ w. at_most (length w.rest.now) };
 
     fn next(&mut self) -> Option<Line<'a>> {
-        let rest = self.rest;
-        if rest.len() == 0 {
+        if self.rest.is_empty() {
             return None;
         }
-        let end = line_length(rest);
-        let after = (end + 1).min(rest.len());
-        self.rest = &rest[after..];
+        let end = self.rest.iter().position(|b| *b == b'\n');
+        let (text, rest) = match end {
+            Some(end) => (&self.rest[..end], &self.rest[end + 1..]),
+            None => (self.rest, &self.rest[0..0]),
+        };
+        self.rest = rest;
         self.number = self.number.saturating_add(1);
         Some(Line {
             number: self.number,
-            text: &rest[0..end],
+            text,
         })
     }
 }

@@ -1,9 +1,8 @@
 // Runs a script of calls through a ring of bytes, and prints what each did.
 #![tactic(auto)]
 
-mod answer;
+mod bench;
 mod lines;
-mod perform;
 mod run;
 mod show;
 

@@ -1,20 +1,25 @@
 // What is printed.
-use crate::answer::Answer;
+use calls::{Answer, NotDone, Value};
+use places::Places;
 use std::fmt;
 
-impl fmt::Display for Answer {
+// What a call answered.
+#[derive(Clone, Copy)]
+pub struct Said(pub Answer<u8>);
+
+impl fmt::Display for Said {
     fn fmt<W: fmt::Write>(&self, f: &mut fmt::Formatter<W>) -> fmt::Result {
-        match *self {
-            Answer::Done => f.write_str("ok"),
-            Answer::Item(Some(item)) => write!(f, "{item}"),
-            Answer::Item(None) => f.write_str("none"),
-            Answer::Number(number) => write!(f, "{number}"),
-            Answer::Flag(flag) => write!(f, "{flag}"),
-            Answer::Verdict(Some(true)) => f.write_str("yes"),
-            Answer::Verdict(Some(false)) => f.write_str("no"),
-            Answer::Verdict(None) => f.write_str("none"),
-            Answer::Part(front, len) => write!(f, "{len} items from slot {front} on"),
-            Answer::Refused(fault) => write!(f, "{fault}"),
+        match &self.0 {
+            Ok(Value::Done) => f.write_str("ok"),
+            Ok(Value::Item(Some(item))) => write!(f, "{item}"),
+            Ok(Value::Item(None)) | Ok(Value::Verdict(None)) => f.write_str("none"),
+            Ok(Value::Number(number)) => write!(f, "{number}"),
+            Ok(Value::Flag(flag)) => write!(f, "{flag}"),
+            Ok(Value::Verdict(Some(true))) => f.write_str("yes"),
+            Ok(Value::Verdict(Some(false))) => f.write_str("no"),
+            Ok(Value::Contiguous(front, len)) => write!(f, "{len} items from slot {front} on"),
+            Err(NotDone::Refused(fault, _)) => write!(f, "{fault}"),
+            Err(NotDone::Unmade) => f.write_str("not made"),
         }
     }
 }
@@ -48,15 +53,18 @@ impl fmt::Display for Slices<'_> {
 #[derive(Clone, Copy)]
 pub struct Drawing<'a> {
     pub slots: &'a [u8],
-    pub front: usize,
-    // how many items lie from the front on, and how many from slot 0 on
-    pub high: usize,
-    pub low: usize,
+    pub places: Places,
 }
 
 impl Drawing<'_> {
     fn holds(&self, slot: usize) -> bool {
-        slot < self.low || (slot >= self.front && slot < self.front.saturating_add(self.high))
+        let Places {
+            capacity,
+            front,
+            len,
+        } = self.places;
+        let end = front.saturating_add(len);
+        (front..end).contains(&slot) || slot.saturating_add(capacity) < end
     }
 }
 
@@ -64,7 +72,7 @@ impl fmt::Display for Drawing<'_> {
     fn fmt<W: fmt::Write>(&self, f: &mut fmt::Formatter<W>) -> fmt::Result {
         for (slot, item) in self.slots.iter().enumerate() {
             f.write_str(" ")?;
-            if slot == self.front {
+            if slot == self.places.front {
                 f.write_str(">")?;
             }
             if self.holds(slot) {
