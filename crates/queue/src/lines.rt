@@ -10,6 +10,7 @@ pub struct Line<'a> {
 }
 
 // What is still to be read, and the number of the line that was read last.
+// The library's `split` and `enumerate` would do, but their type names a closure, which no signature of those who share the lines can write.
 #[derive(Drop)]
 pub struct Lines<'a> {
     rest: &'a [u8],

@@ -29,6 +29,7 @@ fn move_slots<T: Copy>(slots: &mut [T], from: usize, end: usize, to: usize)
 
 impl Deque {
     // Puts the two parts of a ring that goes round the end of its slots together, and answers where they begin.
+    // That the slots suffice no type can hold beside the ring, since they are lent to each call.
     fn gather<T: Copy>(&self, slots: &mut [T]) -> usize
         requires wrapped { self.now.places.capacity - self.now.places.len < self.now.places.front }
         requires enough { self.now.places.capacity ≤ length slots.old }

@@ -43,7 +43,7 @@ impl IntoIter {
         self.ring.len(slots)
     }
 
-    // The first item that is left, or none.
+    // The first item that is left, or none. At the two ends two functions, as the ring's pops are, under the source's names.
     pub fn next<T: Copy>(&mut self, slots: &[T]) -> Result<Option<T>, Fault>
         ensures result { let p = self.old.ring.places in let xs = slots.now in result ≡ answer (at p xs refusal.slots) (plain.pop_front (contents p xs)).answer }
         ensures places { let p = self.old.ring.places in let xs = slots.now in self.new.ring.places ≡ unless (at p xs refusal.slots) p (moves.pop_front p) }
