@@ -76,6 +76,7 @@ pub(crate) fn read<T: Copy, L: Listener<T>>(
         Ok(Reading::Value(value)) => listener.hear(Ok(value)),
         Ok(Reading::Slices(front, first, second)) => listener.hear_slices(front, first, second),
         Ok(Reading::Walk(iter, ends)) => hear_walk(iter, ends, listener),
+        // it is heard, as each value is, and there is no result to pass on
         Err(fault) => listener.hear(Err(NotDone::from(fault))),
     }
 }

@@ -80,6 +80,7 @@ impl Stage {
         let capacity = self.capacity();
         match self.end_or_return(slots, &mut bins[bin]) {
             Ok(binned) => (Stage::Closed { capacity }, Ok(Value::Number(binned))),
+            // a pair is answered, since the stage cannot be dropped, and `?` would be no plainer
             Err(returned) => (returned.given, Err(NotDone::from(returned.fault))),
         }
     }
