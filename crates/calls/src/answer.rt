@@ -1,8 +1,11 @@
 // What a request came to.
 ghost use Rattle.std.specs.Prelude.{◌≡◌, Some, None};
+ghost use Rattle.calls.specs.Lines.{line};
 ghost use Rattle.calls.specs.declared.answer.NotDone.TheVariants as not_done;
 
 use fault::{Fault, Returned};
+use std::error::Error;
+use std::fmt;
 
 pub type Answer<T> = Result<Value<T>, NotDone<T>>;
 
@@ -43,3 +46,17 @@ impl<T> From<Returned<T>> for NotDone<T> {
         NotDone::Refused(fault, Some(given))
     }
 }
+
+// A refusal is shown by its fault's line.
+impl<T> fmt::Display for NotDone<T> {
+    ghost output = { λ e. Some (line e) };
+
+    fn fmt<W: fmt::Write>(&self, f: &mut fmt::Formatter<W>) -> fmt::Result {
+        match self {
+            NotDone::Unmade => f.write_str("not made"),
+            NotDone::Refused(fault, _) => write!(f, "{fault}"),
+        }
+    }
+}
+
+impl<T: fmt::Debug + Drop> Error for NotDone<T> {}

@@ -5,7 +5,7 @@ use deque::{CloseToken, Deque};
 use fault::{Fault, Returned};
 use std::test::Fail;
 
-// Ends a ring that has all its slots. These are lent to each call, so no type holds them with the ring, and the number is a clause.
+// Ends a ring that has all its slots. These are lent to each call, by a rule of the product, so that the ring's type does not say it.
 pub(crate) fn close(ring: Deque, token: CloseToken, slots: &[u8], bin: &mut Tray<u8>) -> usize
     requires { ring.places.capacity ≤ length slots.now }
 {

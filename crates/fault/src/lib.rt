@@ -39,6 +39,20 @@ pub struct Returned<T> {
     pub given: T,
 }
 
+impl<T> Returned<T> {
+    // The same refusal, with what is given back in another form.
+    pub fn map<U, F: FnOnce(T) -> U>(self, form: F) -> Returned<U>
+        requires { F.pre form self.given }
+        ensures fault { result.fault ≡ self.fault }
+        ensures given { F.post form self.given result.given }
+    {
+        Returned {
+            fault: self.fault,
+            given: form(self.given),
+        }
+    }
+}
+
 impl Fault {
     pub fn number(&self) -> u8
         ensures { result ≡ faults.number self.now }

@@ -16,7 +16,7 @@ pub(crate) fn into_iter<T: Copy>(ring: Deque, token: CloseToken, slots: &[T]) ->
 {
     match ring.into_iter(slots) {
         Ok(drain) => (Stage::Drain(drain, token), Ok(Value::Done)),
-        // a pair is answered, since the stage cannot be dropped, and `?` would be no plainer
+        // `?` would lose the stage, which goes back beside the error
         Err(returned) => (
             Stage::Ring(returned.given, token),
             Err(NotDone::from(returned.fault)),

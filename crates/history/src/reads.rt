@@ -12,7 +12,6 @@ ghost use Rattle.history.specs.Calling.{called, no_bin, no_predicate};
 use crate::listener::Listener;
 use calls::{End, NotDone, Read, Value};
 use deque::Deque;
-use fault::Fault;
 use walk::Iter;
 
 // What a read came to, before it is told.
@@ -45,7 +44,11 @@ fn hear_walk<T: Copy, L: Listener<T>>(mut iter: Iter<'_, T>, ends: &[End], liste
 }
 
 // What the ring shows to a read.
-fn look<'a, T: Copy>(ring: &Deque, read: &Read<'a>, slots: &'a [T]) -> Result<Reading<'a, T>, Fault>
+fn look<'a, T: Copy>(
+    ring: &Deque,
+    read: &Read<'a>,
+    slots: &'a [T],
+) -> Result<Reading<'a, T>, NotDone<T>>
     ensures { told_of result ≡ (called no_bin no_predicate at_ring ring.now.places slots.now [] [] (call_is.Read read.now)).answer }
 {
     Ok(match read {
@@ -76,7 +79,6 @@ pub(crate) fn read<T: Copy, L: Listener<T>>(
         Ok(Reading::Value(value)) => listener.hear(Ok(value)),
         Ok(Reading::Slices(front, first, second)) => listener.hear_slices(front, first, second),
         Ok(Reading::Walk(iter, ends)) => hear_walk(iter, ends, listener),
-        // it is heard, as each value is, and there is no result to pass on
-        Err(fault) => listener.hear(Err(NotDone::from(fault))),
+        Err(not_done) => listener.hear(Err(not_done)),
     }
 }

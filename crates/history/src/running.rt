@@ -88,7 +88,7 @@ fn call<T: Copy, B: Bin<T>, P: Predicate<T>, L: Listener<T>>(
     }
 }
 
-// Puts one request. A struct of the four borrows would be made anew here, for a part of the slots, and need a clause for each that it is the same borrow.
+// Puts one request. That the slots suffice no stage says, since they are lent. A struct of the four borrows would be made anew here, for a part of the slots, and need a clause for each that it is the same borrow.
 fn put<T: Copy, B: Bin<T>, P: Predicate<T>, L: Listener<T>>(
     stage: Stage,
     request: &Request<'_, T>,

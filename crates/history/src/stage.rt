@@ -36,20 +36,12 @@ impl Stage {
         ensures bin { let s = B.state bin.old in B.state bin.new ≡ unless (end_refusal self (length slots.now)) s (fold B.rule s (left_in self slots.now)) }
     {
         match self {
-            Stage::Ring(ring, token) => ring.close(token, slots, bin).map_err(|Returned {
-                fault,
-                given: (ring, token),
-            }| Returned {
-                fault,
-                given: Stage::Ring(ring, token),
-            }),
-            Stage::Drain(drain, token) => drain.finish(token, slots, bin).map_err(|Returned {
-                fault,
-                given: (drain, token),
-            }| Returned {
-                fault,
-                given: Stage::Drain(drain, token),
-            }),
+            Stage::Ring(ring, token) => ring.close(token, slots, bin).map_err(
+                |returned| returned.map(|(ring, token)| Stage::Ring(ring, token)),
+            ),
+            Stage::Drain(drain, token) => drain.finish(token, slots, bin).map_err(
+                |returned| returned.map(|(drain, token)| Stage::Drain(drain, token)),
+            ),
             Stage::Closed { capacity: _ } => Ok(0),
         }
     }
@@ -73,14 +65,14 @@ impl Stage {
     ) -> (Stage, Answer<T>)
         ensures { left_with (phase_of result.0) (places_of result.0) slots.now (map B.state bins.new) [] result.1 ≡ called B.rule no_predicate (phase_of self) (places_of self) slots.now (map B.state bins.old) [] (call_is.Close bin) }
     {
-        // by index, as in the edits
+        // by index: after `get_mut` nothing is known of a slice's elements, and the clause is not proved
         if matches!(self, Stage::Closed { .. }) || bin >= bins.len() {
             return (self, Err(NotDone::Unmade));
         }
         let capacity = self.capacity();
         match self.end_or_return(slots, &mut bins[bin]) {
             Ok(binned) => (Stage::Closed { capacity }, Ok(Value::Number(binned))),
-            // a pair is answered, since the stage cannot be dropped, and `?` would be no plainer
+            // `?` would lose the stage, which goes back beside the error
             Err(returned) => (returned.given, Err(NotDone::from(returned.fault))),
         }
     }

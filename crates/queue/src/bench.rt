@@ -96,7 +96,8 @@ impl Bench {
         }
     }
 
-    // Carries out a call.
+    // Carries out a call; those that only show something answer `ok`. The calls of a history are carried out elsewhere: their
+    // predicates are named among those that are lent, and one dispatch for both would make each line a request first.
     pub(crate) fn perform(&mut self, command: &Command<Vec<u8>, Vec<bool>>) -> Answer<u8> {
         let slots = self.slots.as_mut_slice();
         match command {
@@ -150,6 +151,7 @@ impl Bench {
         let mut bin = bin;
         match ring.close(token, slots.as_slice(), &mut bin) {
             Ok(binned) => (binned, bin),
+            // it cannot be refused: the slots are enough
             Err(_) => unreachable(),
         }
     }

@@ -2,7 +2,7 @@
 ghost use Rattle.std.specs.Prelude.{◌≤◌, length};
 ghost use Rattle.std.specs.Iterator.{at_most};
 
-#[derive(Clone, Copy)]
+#[derive(Clone, Copy, Debug, PartialEq, Eq)]
 pub struct Line<'a> {
     // from 1
     pub number: usize,
@@ -10,7 +10,8 @@ pub struct Line<'a> {
 }
 
 // What is still to be read, and the number of the line that was read last.
-// The library's `split` and `enumerate` would do, but their type names a closure, which no signature of those who share the lines can write.
+// The library's `split` and `enumerate` would be no plainer: their type names a closure, so that each who shares the lines would
+// take a type parameter in its place, and owe that the lines may be taken, and end.
 #[derive(Drop)]
 pub struct Lines<'a> {
     rest: &'a [u8],

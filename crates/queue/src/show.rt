@@ -1,10 +1,10 @@
 // What is printed.
-use calls::{Answer, NotDone, Value};
+use calls::{Answer, Value};
 use places::Places;
 use std::fmt;
 
 // What a call answered.
-#[derive(Clone, Copy)]
+#[derive(Clone, Copy, Debug, PartialEq, Eq)]
 pub struct Said(pub Answer<u8>);
 
 impl fmt::Display for Said {
@@ -18,14 +18,13 @@ impl fmt::Display for Said {
             Ok(Value::Verdict(Some(true))) => f.write_str("yes"),
             Ok(Value::Verdict(Some(false))) => f.write_str("no"),
             Ok(Value::Contiguous(front, len)) => write!(f, "{len} items from slot {front} on"),
-            Err(NotDone::Refused(fault, _)) => write!(f, "{fault}"),
-            Err(NotDone::Unmade) => f.write_str("not made"),
+            Err(not_done) => write!(f, "{not_done}"),
         }
     }
 }
 
 // Items, each after a space.
-#[derive(Clone, Copy)]
+#[derive(Clone, Copy, Debug, PartialEq, Eq)]
 pub struct Items<'a>(pub &'a [u8]);
 
 impl fmt::Display for Items<'_> {
@@ -38,7 +37,7 @@ impl fmt::Display for Items<'_> {
 }
 
 // The list of a ring in its two parts.
-#[derive(Clone, Copy)]
+#[derive(Clone, Copy, Debug, PartialEq, Eq)]
 pub struct Slices<'a>(pub &'a [u8], pub &'a [u8]);
 
 impl fmt::Display for Slices<'_> {
@@ -50,7 +49,7 @@ impl fmt::Display for Slices<'_> {
 }
 
 // The slots in a row: vacant ones dotted, and the front marked.
-#[derive(Clone, Copy)]
+#[derive(Clone, Copy, Debug, PartialEq, Eq)]
 pub struct Drawing<'a> {
     pub slots: &'a [u8],
     pub places: Places,

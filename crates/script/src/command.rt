@@ -62,7 +62,7 @@ pub enum Name {
 // What a line asks for. `I` holds the items of a load, and `F` the flags of a mask.
 #[derive(Clone, Debug, Drop, PartialEq, Eq)]
 pub enum Command<I, F> {
-    // a blank line, or a comment
+    // a blank line, or a comment: a reading like the others, and no `None` around them all, which would be no plainer
     Nothing,
     // a ring of so many slots
     Make(usize),

@@ -13,7 +13,7 @@ use places::End;
 use std::alloc::Global;
 use std::str::from_utf8;
 
-// The name that a word is.
+// The name that a word is. An `Option` and no `TryFrom`: which mistake it is where there is none depends on where the word stands.
 fn named(word: &[u8]) -> Option<Name>
     ensures { result ≡ table.lookup table.names word.now }
 {

@@ -9,7 +9,7 @@ use crate::number::number;
 use std::alloc::Global;
 
 // A word, and its place after the name, from 1.
-#[derive(Clone, Copy, Debug)]
+#[derive(Clone, Copy, Debug, PartialEq, Eq)]
 pub(crate) struct Operand<'a> {
     pub(crate) word: &'a [u8],
     pub(crate) place: usize,
@@ -32,6 +32,7 @@ impl<'a> Operand<'a> {
     pub(crate) fn item(&self) -> Result<u8, Mistake>
         ensures { result ≡ commands.numbered commands.max_item self.now.place self.now.word.now }
     {
+        // by way of `ok`: with `map_err` the clause is not proved
         u8::try_from(self.number()?)
             .ok()
             .ok_or(Mistake::NoNumber(self.place))

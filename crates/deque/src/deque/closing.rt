@@ -53,11 +53,8 @@ impl Deque {
         ensures list { let p = self.old.places in let xs = slots.now in contents self.new.places xs ≡ unless (at p xs refusal.slots) (contents p xs) (plain.clear (contents p xs)).list }
         ensures bin { let p = self.old.places in let xs = slots.now in let s = B.state bin.old in B.state bin.new ≡ unless (at p xs refusal.slots) s (fold B.rule s (plain.clear (contents p xs)).binned) }
     {
-        let (first, second) = self.as_slices(slots)?;
-        bin_from(first, second, 0, bin);
-        let binned = self.places.len;
+        let binned = self.truncate(slots, 0, bin)?;
         self.places.front = 0;
-        self.places.len = 0;
         Ok(binned)
     }
 
@@ -78,6 +75,7 @@ impl Deque {
                 let CloseToken { sealed: () } = token;
                 Ok(places.len)
             }
+            // no `map_err`: it would move the ring, which the other arm takes apart
             Err(fault) => Err(Returned {
                 fault,
                 given: (self, token),

@@ -29,7 +29,7 @@ fn move_slots<T: Copy>(slots: &mut [T], from: usize, end: usize, to: usize)
 
 impl Deque {
     // Puts the two parts of a ring that goes round the end of its slots together, and answers where they begin.
-    // That the slots suffice no type can hold beside the ring, since they are lent to each call.
+    // That the slots suffice the ring's type does not say, since they are lent to each call, by a rule of the product.
     fn gather<T: Copy>(&self, slots: &mut [T]) -> usize
         requires wrapped { self.now.places.capacity - self.now.places.len < self.now.places.front }
         requires enough { self.now.places.capacity ≤ length slots.old }

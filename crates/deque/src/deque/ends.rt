@@ -79,8 +79,8 @@ impl Deque {
         }
     }
 
-    // The calls at the front and at the back stay two functions each: the names are the source's, and of two bodies that differ
-    // in most lines one with an `End` would be no plainer.
+    // The calls at the front and at the back stay two functions each, under the source's names. What they share is `room`, `slot`
+    // and `change`; one function with an `End` behind each pair would choose by it whatever else there is, and be no plainer.
     pub fn push_back<T: Copy>(&mut self, slots: &mut [T], item: T) -> Result<(), Returned<T>>
         ensures result { let p = self.old.places in let xs = slots.old in result ≡ answer_or_return (at p xs refusal.push) item (plain.push_back item (contents p xs)).answer }
         ensures places { let p = self.old.places in let xs = slots.old in self.new.places ≡ unless (at p xs refusal.push) p (moves.push_back p) }

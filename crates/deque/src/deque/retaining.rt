@@ -16,7 +16,7 @@ use predicates::Predicate;
 
 impl Deque {
     // Shows each item, in list order, stores it as left, brings those that got yes to the front, and answers how many they are.
-    // That the slots suffice no type can hold beside the ring, since they are lent to each call.
+    // That the slots suffice the ring's type does not say, since they are lent to each call, by a rule of the product.
     fn sift<T: Copy, P: Predicate<T>>(&self, slots: &mut [T], predicate: &mut P) -> usize
         requires { self.now.places.capacity ≤ length slots.old }
         ensures result { let ws = showings P.rule (P.state predicate.old) (contents self.now.places slots.old) in result ≡ length (kept ws) }

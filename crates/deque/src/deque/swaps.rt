@@ -32,7 +32,7 @@ impl Deque {
         Ok(())
     }
 
-    // Exchanges item i with the front one, and pops the front. One function with an `End` would be no plainer: it would choose the other item, and then the pop.
+    // Exchanges item i with the front one, and pops the front. Two functions, as the pops are: one with an `End` would choose the other item by it, and then the pop.
     pub fn swap_remove_front<T: Copy>(
         &mut self,
         slots: &mut [T],

@@ -35,7 +35,7 @@ impl Deque {
         Ok(Some(predicate.show(&mut slots[at])))
     }
 
-    // Shows the front item and stores it as left; a yes pops it. One function with an `End` would be no plainer: it would choose the item, and then the pop.
+    // Shows the front item and stores it as left; a yes pops it. Two functions, as the pops are: one with an `End` would choose the item by it, and then the pop.
     pub fn pop_front_if<T: Copy, P: Predicate<T>>(
         &mut self,
         slots: &mut [T],
