@@ -1,5 +1,5 @@
 -- What a call comes to that is lent these slots and no more.
-use Rattle.std.specs.Prelude.{false, List, length}
+use Rattle.std.specs.Prelude.{false, List, map, length}
 use Rattle.bins.specs.declared.bin.Bin.{Ghosts as BinGhosts}
 use Rattle.predicates.specs.Showing.{Shown}
 use Rattle.predicates.specs.declared.predicate.Predicate.{Ghosts as PredicateGhosts}
@@ -8,7 +8,7 @@ use Rattle.calls.specs.Calls.{Phase}
 use Rattle.calls.specs.Answers.{Answer, said}
 use Rattle.calls.specs.RingAt.{Happened, lie, step}
 use Rattle.calls.specs.declared.call.Call.{Call}
-use Rattle.history.specs.Standing.{moment_of}
+use Rattle.history.specs.Standing.{phase_of, places_of}
 use Rattle.history.specs.declared.stage.Stage.{Stage}
 
 module _ {T S P : Type 0} where
@@ -30,4 +30,4 @@ no_predicate s x = record { answer = false; item = x; state = s }
 
 -- a call of a stage, with bins and predicates as the code holds them
 abbrev pub called_at : {T B R P : Type 0} → (b : BinGhosts B T R) → (p : PredicateGhosts P T) → Stage → List T → List B → List P → Call T → Happened T b.State p.State
-called_at b p stage slots bins predicates call = step b.rule p.rule (moment_of b p stage slots bins predicates) (record { lent = length slots; call = call })
+called_at b p stage slots bins predicates call = called b.rule p.rule (phase_of stage) (places_of stage) slots (map b.state bins) (map p.state predicates) call
