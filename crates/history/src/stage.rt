@@ -10,6 +10,7 @@ use calls::{Answer, NotDone, Value};
 use deque::{CloseToken, Deque, IntoIter};
 use fault::Returned;
 
+// A ring is neither copied nor compared, nor shown without its slots, and so neither is a stage.
 pub enum Stage {
     Ring(Deque, CloseToken),
     Drain(IntoIter, CloseToken),

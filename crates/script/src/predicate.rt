@@ -11,7 +11,7 @@ use crate::operands::Operand;
 use std::alloc::Global;
 use std::str::from_utf8;
 
-// The kind of predicate that a word names.
+// The kind of predicate that a word names. An `Option` and no `TryFrom`: the mistake where there is none names the word's place.
 fn named(word: &[u8]) -> Option<Kind>
     ensures { result ≡ table.lookup table.kinds word.now }
 {

@@ -21,6 +21,7 @@ impl Deque {
     pub fn into_iter<T>(self, slots: &[T]) -> Result<IntoIter, Returned<Deque>>
         ensures { result ≡ answer_or_return (at self.places slots.now refusal.slots) self (record { ring = self }) }
     {
+        // no `map_err`: it would move the ring, which goes into the drain
         if let Err(fault) = self.lent(slots) {
             return Err(Returned { fault, given: self });
         }
