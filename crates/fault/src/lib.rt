@@ -32,25 +32,11 @@ pub enum Fault {
     TooMany(usize),
 }
 
-// A refusal that gives back what the call was given.
+// A refusal that gives back what the call was given. It has no `map`, which would ask of its caller that the function may be called.
 #[derive(Clone, Copy, Debug, PartialEq, Eq)]
 pub struct Returned<T> {
     pub fault: Fault,
     pub given: T,
-}
-
-impl<T> Returned<T> {
-    // The same refusal, with what is given back in another form.
-    pub fn map<U, F: FnOnce(T) -> U>(self, form: F) -> Returned<U>
-        requires { F.pre form self.given }
-        ensures fault { result.fault ≡ self.fault }
-        ensures given { F.post form self.given result.given }
-    {
-        Returned {
-            fault: self.fault,
-            given: form(self.given),
-        }
-    }
 }
 
 impl Fault {

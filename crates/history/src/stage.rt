@@ -37,12 +37,20 @@ impl Stage {
         ensures bin { let s = B.state bin.old in B.state bin.new ≡ unless (end_refusal self (length slots.now)) s (fold B.rule s (left_in self slots.now)) }
     {
         match self {
-            Stage::Ring(ring, token) => ring.close(token, slots, bin).map_err(
-                |returned| returned.map(|(ring, token)| Stage::Ring(ring, token)),
-            ),
-            Stage::Drain(drain, token) => drain.finish(token, slots, bin).map_err(
-                |returned| returned.map(|(drain, token)| Stage::Drain(drain, token)),
-            ),
+            Stage::Ring(ring, token) => ring.close(token, slots, bin).map_err(|Returned {
+                fault,
+                given: (ring, token),
+            }| Returned {
+                fault,
+                given: Stage::Ring(ring, token),
+            }),
+            Stage::Drain(drain, token) => drain.finish(token, slots, bin).map_err(|Returned {
+                fault,
+                given: (drain, token),
+            }| Returned {
+                fault,
+                given: Stage::Drain(drain, token),
+            }),
             Stage::Closed { capacity: _ } => Ok(0),
         }
     }
