@@ -2,6 +2,7 @@
 #![tactic(auto)]
 
 pub mod bin;
+mod choice;
 pub mod pair;
 pub mod sending;
 pub mod tray;
