@@ -1,4 +1,4 @@
-// Two bins as one: each item goes to the first, and then to the second.
+// Two bins as one: each item goes to the first, and then to the second. Bins are taken to and read, and never compared.
 ghost use Rattle.std.specs.Prelude.{ℕ};
 ghost use Rattle.bins.specs.Pairs.{paired};
 ghost use Rattle.std.proofs.Common.{rules};

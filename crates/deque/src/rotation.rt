@@ -1,4 +1,4 @@
-// Turning slots left. A rule of the product: what moves slots is written here, for items of every kind, and not left to the library's `rotate_left`.
+// Turning slots left. A rule of the product: turning is written out here, for items of every kind, and not left to the library's `rotate_left`.
 ghost use Rattle.std.specs.Prelude.{◌≡◌};
 ghost use Rattle.lists.specs.Rotated.{rotated};
 

@@ -14,7 +14,7 @@ use calls::{End, NotDone, Read, Value};
 use deque::Deque;
 use walk::Iter;
 
-// What a read came to, before it is told.
+// What a read came to, before it is told. No derive: nothing compares it, and a walk moves on as it is taken from.
 enum Reading<'a, T> {
     Value(Value<T>),
     // where the first slice begins, and both

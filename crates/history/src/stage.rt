@@ -36,6 +36,7 @@ impl Stage {
         ensures result { result ≡ answer_or_return (end_refusal self (length slots.now)) self (length (left_in self slots.now)) }
         ensures bin { let s = B.state bin.old in B.state bin.new ≡ unless (end_refusal self (length slots.now)) s (fold B.rule s (left_in self slots.now)) }
     {
+        // by closures that take it apart, since `Returned` has no `map`; one function for both would be as long as they are
         match self {
             Stage::Ring(ring, token) => ring.close(token, slots, bin).map_err(|Returned {
                 fault,

@@ -73,6 +73,7 @@ impl IntoIter {
         ensures bin { let p = self.ring.places in let xs = slots.now in let s = B.state bin.old in B.state bin.new ≡ unless (at p xs refusal.slots) s (fold B.rule s (plain.clear (contents p xs)).binned) }
     {
         let IntoIter { ring } = self;
+        // by a closure that takes it apart, since `Returned` has no `map`
         ring.close(token, slots, bin).map_err(|Returned {
             fault,
             given: (ring, token),
