@@ -1,31 +1,8 @@
 // A ring that was moved into a drain.
-ghost use Rattle.std.specs.Prelude.{◌≡◌, ◌≤◌, length};
-
 use bins::Tray;
-use deque::{CloseToken, Deque, IntoIter};
+use deque::Deque;
 use fault::{Fault, Returned};
 use std::test::Fail;
-
-// Ends a drain that has all its slots. These are lent to each call, by a rule of the product, so that the drain's type does not say it.
-fn finish(drain: IntoIter, token: CloseToken, slots: &[u8], bin: &mut Tray<u8>) -> usize
-    requires { drain.ring.places.capacity ≤ length slots.now }
-{
-    match drain.finish(token, slots, bin) {
-        Ok(binned) => binned,
-        Err(_) => unreachable(),
-    }
-}
-
-// Moves a ring that has all its slots.
-fn moved(ring: Deque, slots: &[u8]) -> IntoIter
-    requires { ring.places.capacity ≤ length slots.now }
-    ensures { result.ring.places ≡ ring.places }
-{
-    match ring.into_iter(slots) {
-        Ok(drain) => drain,
-        Err(_) => unreachable(),
-    }
-}
 
 // Six slots, front 4, with the list 1 2 3 4: 1 and 4 leave at the ends, and the end bins 2 and 3.
 #[test]
@@ -37,12 +14,12 @@ fn from_both_ends(rt: HostRuntime) -> Result<(), Fail> {
     let first = ring.push_front(&mut slots, 1);
     let third = ring.push_back(&mut slots, 3);
     let fourth = ring.push_back(&mut slots, 4);
-    let mut drain = moved(ring, &slots);
+    let mut drain = ring.into_iter(&slots).unwrap();
     let front = drain.places().front();
     let next = drain.next(&slots);
     let back = drain.next_back(&slots);
     let left = drain.len(&slots);
-    let binned = finish(drain, token, &slots, &mut bin);
+    let binned = drain.finish(token, &slots, &mut bin).unwrap();
     assert!(rt; first.is_ok() && second.is_ok() && third.is_ok() && fourth.is_ok());
     assert_eq!(rt; front, 4);
     assert_eq!(rt; next, Ok(Some(1)));
@@ -63,7 +40,7 @@ fn refused_and_used_again(rt: HostRuntime) -> Result<(), Fail> {
     let pushed = ring.push_back(&mut slots, 5);
     let (fault, drain) = match ring.into_iter(&few) {
         Ok(drain) => (None, drain),
-        Err(Returned { fault, given }) => (Some(fault), moved(given, &slots)),
+        Err(Returned { fault, given }) => (Some(fault), given.into_iter(&slots).unwrap()),
     };
     let (again, binned) = match drain.finish(token, &few, &mut bin) {
         Ok(binned) => (None, binned),
@@ -72,7 +49,7 @@ fn refused_and_used_again(rt: HostRuntime) -> Result<(), Fail> {
                 fault,
                 given: (drain, token),
             },
-        ) => (Some(fault), finish(drain, token, &slots, &mut bin)),
+        ) => (Some(fault), drain.finish(token, &slots, &mut bin).unwrap()),
     };
     assert!(rt; pushed.is_ok());
     assert_eq!(rt; fault, Some(Fault::TooFewSlots(1)));

@@ -1,12 +1,11 @@
 // Histories of a ring, and what a listener hears of them.
-ghost use Rattle.std.specs.Prelude.{◌≡◌, ◌≤◌, length};
-ghost use Rattle.history.specs.Standing.{places_of};
+ghost use Rattle.std.specs.Prelude.{◌≡◌};
 
 use bins::{Bin, Pair, Tray};
 use calls::{Answer, Call, Edit, NotDone, Read, Release, Request, Test, Value};
 use either::Either;
 use fault::Fault;
-use history::{Listener, Stage, run};
+use history::{Listener, run};
 use places::End;
 use predicates::{AddByte, AtLeast};
 use std::test::Fail;
@@ -39,16 +38,6 @@ impl Listener<u8> for Heard {
 
 fn lent<'a>(slots: usize, call: Call<'a, u8>) -> Request<'a, u8> {
     Request { lent: slots, call }
-}
-
-// Ends what a history left open, over all its slots.
-fn end(stage: Stage, slots: &[u8], bin: &mut Tray<u8>) -> usize
-    requires { (places_of stage).capacity ≤ length slots.now }
-{
-    match stage.end(slots, bin) {
-        Ok(binned) => binned,
-        Err(_) => unreachable(),
-    }
 }
 
 // Three slots, one tray, and adding 10: pushes, a change, a making contiguous, a truncation, and a closing that is refused once.
@@ -93,7 +82,7 @@ fn a_small_history(rt: HostRuntime) -> Result<(), Fail> {
         &mut predicates,
         &mut heard,
     );
-    let left = end(stage, &slots, &mut rest);
+    let left = stage.end(&slots, &mut rest).unwrap();
     let wanted: [Answer<u8>; 10] = [
         Ok(Value::Done),
         Ok(Value::Done),
@@ -143,7 +132,7 @@ fn a_drained_history(rt: HostRuntime) -> Result<(), Fail> {
         &mut predicates,
         &mut heard,
     );
-    let left = end(stage, &slots, &mut rest);
+    let left = stage.end(&slots, &mut rest).unwrap();
     let wanted: [Answer<u8>; 10] = [
         Ok(Value::Done),
         Err(NotDone::Refused(Fault::TooFewSlots(3), None)),
@@ -211,7 +200,7 @@ fn several_kinds(rt: HostRuntime) -> Result<(), Fail> {
         &mut predicates,
         &mut heard,
     );
-    let left = end(stage, &slots, &mut rest);
+    let left = stage.end(&slots, &mut rest).unwrap();
     let counts = (bins[0].count(), bins[1].count());
     let read = (bins[0].read(0), bins[1].read(1));
     let wanted: [Answer<u8>; 4] = [

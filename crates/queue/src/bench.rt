@@ -55,10 +55,7 @@ impl Bench {
 
     // The list in its two parts. They cannot be refused: the slots are enough.
     pub(crate) fn slices(&self) -> (&[u8], &[u8]) {
-        match self.ring.as_slices(self.slots.as_slice()) {
-            Ok(parts) => parts,
-            Err(_) => unreachable(),
-        }
+        self.ring.as_slices(self.slots.as_slice()).unwrap()
     }
 
     pub(crate) fn iter(&self) -> Iter<'_, u8> {
@@ -138,7 +135,7 @@ impl Bench {
         }
     }
 
-    // Ends the ring: its items go into the bin; answers how many there were, and the bin.
+    // Ends the ring, which cannot be refused: its items go into the bin; answers how many there were, and the bin.
     pub(crate) fn close(self) -> (usize, Tray<u8>)
         ensures { result.0 ≡ length (contents self.ring.places (vec_items self.slots)) }
     {
@@ -149,10 +146,7 @@ impl Bench {
             bin,
         } = self;
         let mut bin = bin;
-        match ring.close(token, slots.as_slice(), &mut bin) {
-            Ok(binned) => (binned, bin),
-            // it cannot be refused: the slots are enough
-            Err(_) => unreachable(),
-        }
+        let binned = ring.close(token, slots.as_slice(), &mut bin).unwrap();
+        (binned, bin)
     }
 }
