@@ -109,7 +109,7 @@ fn as_many_slots_as_there_may_be(rt: HostRuntime) -> Result<(), Fail> {
     Ok(())
 }
 
-// Each call of a ring of four slots that is lent three of them.
+// Calls of each kind, of a ring of four slots that is lent three of them.
 #[test]
 fn too_few_slots(rt: HostRuntime) -> Result<(), Fail> {
     let mut bin = Tray::new(rt.alloc(), 4)?;
