@@ -1,5 +1,5 @@
 // What can be asked of a ring, and of the drain that it is moved into.
-use places::End;
+pub use places::End;
 
 // The edits that use neither a predicate nor a bin.
 #[derive(Clone, Copy, Debug, PartialEq, Eq)]

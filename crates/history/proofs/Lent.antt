@@ -1,14 +1,16 @@
 -- A request that is lent a part of the slots: fewer than the capacity, which is refused, or all of them.
-use Rattle.std.proofs.Common.{◌≡◌, ℕ, ◌≤◌, min, true, false, cond, nat_lt, List, [], ◌++◌, length, take, drop, fold, Some, Err, Option, sym, ap, ◌∙◌, inl, inr, arith}
+use Rattle.std.proofs.Common.{◌≡◌, ℕ, ◌<◌, ◌≤◌, min, true, false, cond, nat_lt, List, [], ◌++◌, length, take, drop, fold, Some, Err, Option, sym, ap, ◌∙◌, inl, inr, ⊎_elim, arith}
 use Rattle.std.proofs.lemmas.List.{append-nil, take_all, drop_all, length-take-le, take-append-drop}
 use Rattle.std.proofs.lemmas.Bool.{cases_lt, lt-ltb, le-ltb}
 use Rattle.fault.specs.declared.Fault.{Fault}
 use Rattle.fault.specs.declared.Fault.TheVariants.{TooFewSlots}
+use Rattle.fault.specs.Refusing.{unless}
+use Rattle.places.specs.declared.Places.{Places}
 use Rattle.predicates.specs.Showing.{Shown}
 use Rattle.calls.specs.Calls.{refusal, made}
-use Rattle.calls.specs.Answers.{Heard, said}
+use Rattle.calls.specs.Answers.{Heard, said, unless_refused}
 use Rattle.calls.specs.declared.answer.NotDone.TheVariants.{Unmade}
-use Rattle.calls.specs.RingAt.{Moment, Happened, lie, acts, step}
+use Rattle.calls.specs.RingAt.{Lies, Moment, Happened, lie, acts, step}
 use Rattle.calls.specs.declared.call.Edit.TheVariants.{Load, Push, Pop, Swap, SwapRemove, MakeContiguous}
 use Rattle.calls.specs.declared.call.Call.{Call}
 use Rattle.calls.specs.declared.call.Call.TheVariants.{Edit as Edits, Test as Tests, Release as Releases, Retain, Read as Reads, IntoIter, Close}
@@ -46,6 +48,59 @@ module _ {T : Type 0} (capacity len : ℕ) where
   refusal_enough (Reads read) j k h i = simp (h, i)
   refusal_enough IntoIter j k h i = simp (h, i)
   refusal_enough (Close bin) j k h i = simp (h, i)
+
+-- a call that is lent the first `end` of the slots xs
+module _ {T : Type 0} (call : Call T) (p : Places) (xs : List T) (asked end : ℕ) (room : p.capacity ≤ length xs) (is : end ≡ lent_end asked p.capacity (length xs)) where
+  abbrev R : ℕ → Option Fault
+  R k = refusal call p.capacity k p.len
+
+  low : asked < p.capacity → end ≡ asked
+  low h = is ∙ ap (λ b. cond b (min asked (length xs)) (length xs)) (lt-ltb asked p.capacity h) ∙ omega arith
+
+  high : p.capacity ≤ asked → end ≡ length xs
+  high h = is ∙ ap (λ b. cond b (min asked (length xs)) (length xs)) (le-ltb asked p.capacity h)
+
+  few : asked < p.capacity → R asked ≡ Some (TooFewSlots asked)
+  few h = refusal_short p.capacity p.len call asked (lt-ltb asked p.capacity h)
+
+  part_short : asked < p.capacity → R (length (take end xs)) ≡ Some (TooFewSlots asked)
+  part_short h = let e = low h in ap R (length-take-le end xs (omega arith) ∙ e) ∙ few h
+
+  whole : p.capacity ≤ asked → take end xs ≡ xs
+  whole h = let e = high h in take_all end xs (omega arith)
+
+  nothing_left : p.capacity ≤ asked → drop end xs ≡ []
+  nothing_left h = let e = high h in drop_all end xs (omega arith)
+
+  whole_enough : p.capacity ≤ asked → R (length xs) ≡ R asked
+  whole_enough h = refusal_enough p.capacity p.len call (length xs) asked (le-ltb (length xs) p.capacity room) (le-ltb asked p.capacity h)
+
+  -- whatever a call leaves that is not slots
+  pub lent_value : {X : Type 0} (x : X) (F : List T → X) → unless (R (length (take end xs))) x (F (take end xs)) ≡ unless (R asked) x (F xs)
+  lent_value x F =
+      ⊎_elim
+      (λ h. ap (λ o. unless o x (F (take end xs))) (part_short h) ∙ sym (ap (λ o. unless o x (F xs)) (few h)))
+      (λ h. ap (λ ys. unless (R (length ys)) x (F ys)) (whole h) ∙ ap (λ o. unless o x (F xs)) (whole_enough h))
+      (cases_lt asked p.capacity)
+
+  -- what it answers
+  pub lent_answer : (item : Option T) (F : List T → Heard T) → unless_refused (R (length (take end xs))) item (F (take end xs)) ≡ unless_refused (R asked) item (F xs)
+  lent_answer item F =
+      ⊎_elim
+      (λ h. ap (λ o. unless_refused o item (F (take end xs))) (part_short h) ∙ sym (ap (λ o. unless_refused o item (F xs)) (few h)))
+      (λ h. ap (λ ys. unless_refused (R (length ys)) item (F ys)) (whole h) ∙ ap (λ o. unless_refused o item (F xs)) (whole_enough h))
+      (cases_lt asked p.capacity)
+
+  -- where it leaves the ring, with the part put back in its place
+  pub lent_lies : (F : List T → Lies T) (q : Places) (ys : List T) → lie q ys ≡ unless (R (length (take end xs))) (lie p (take end xs)) (F (take end xs)) → lie q (ys ++ drop end xs) ≡ unless (R asked) (lie p xs) (F xs)
+  lent_lies F q ys e =
+      ⊎_elim
+      (λ h. ap back (e ∙ ap (λ o. unless o (lie p (take end xs)) (F (take end xs))) (part_short h)) ∙ ap (lie p) (take-append-drop end xs) ∙ sym (ap (λ o. unless o (lie p xs) (F xs)) (few h)))
+      (λ h. ap (λ zs. lie q (ys ++ zs)) (nothing_left h) ∙ ap (lie q) (append-nil ys) ∙ e ∙ ap (λ zs. unless (R (length zs)) (lie p zs) (F zs)) (whole h) ∙ ap (λ o. unless o (lie p xs) (F xs)) (whole_enough h))
+      (cases_lt asked p.capacity)
+    where
+      back : Lies T → Lies T
+      back r = lie r.places (r.slots ++ drop end xs)
 
 module _ {T S P : Type 0} (takes : S → T → S) (rule : P → T → Shown P T) (m : Moment T S P) (q : Request T) (end : ℕ) where
   abbrev xs : List T

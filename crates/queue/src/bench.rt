@@ -1,6 +1,7 @@
 // The ring of a script, and its calls.
 ghost use Rattle.std.specs.Prelude.{◌≡◌, ◌≤◌, length, vec_len, vec_items};
 ghost use Rattle.deque.specs.Ring.{contents};
+ghost use Rattle.walk.specs.Walks.{ahead};
 
 use bins::Tray;
 use calls::{Answer, Value};
@@ -58,12 +59,16 @@ impl Bench {
         self.ring.as_slices(self.slots.as_slice()).unwrap()
     }
 
-    pub(crate) fn iter(&self) -> Iter<'_, u8> {
-        let (first, second) = self.slices();
-        Iter::over(first, second)
+    // A walk over the list, which cannot be refused either.
+    pub(crate) fn iter(&self) -> Iter<'_, u8>
+        ensures { ahead result ≡ contents self.now.ring.places (vec_items self.now.slots) }
+    {
+        self.ring.iter(self.slots.as_slice()).unwrap()
     }
 
-    fn plain(&mut self, call: Plain) -> Answer<u8> {
+    fn plain(&mut self, call: Plain) -> Answer<u8>
+        ensures { self.new.ring.places.capacity ≡ self.old.ring.places.capacity }
+    {
         let slots = self.slots.as_mut_slice();
         match call {
             Plain::PopFront => Ok(Value::Item(self.ring.pop_front(slots)?)),
@@ -83,7 +88,9 @@ impl Bench {
         }
     }
 
-    fn indexed(&mut self, call: Indexed, i: usize) -> Answer<u8> {
+    fn indexed(&mut self, call: Indexed, i: usize) -> Answer<u8>
+        ensures { self.new.ring.places.capacity ≡ self.old.ring.places.capacity }
+    {
         let slots = self.slots.as_mut_slice();
         match call {
             Indexed::Get => Ok(Value::Item(self.ring.get(slots, i)?)),
@@ -95,7 +102,9 @@ impl Bench {
 
     // Carries out a call; those that only show something answer `ok`. The calls of a history are carried out elsewhere: their
     // predicates are named among those that are lent, and one dispatch for both would make each line a request first.
-    pub(crate) fn perform(&mut self, command: &Command<Vec<u8>, Vec<bool>>) -> Answer<u8> {
+    pub(crate) fn perform(&mut self, command: &Command<Vec<u8>, Vec<bool>>) -> Answer<u8>
+        ensures { self.new.ring.places.capacity ≡ self.old.ring.places.capacity }
+    {
         let slots = self.slots.as_mut_slice();
         match command {
             Command::Nothing | Command::Make(_) => Ok(Value::Done),

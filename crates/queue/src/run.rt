@@ -1,4 +1,6 @@
 // A script from its first line to its last.
+ghost use Rattle.std.specs.Prelude.{◌≡◌};
+
 use crate::bench::Bench;
 use crate::lines::{Line, Lines};
 use crate::show::{Drawing, Items, Said, Slices};
@@ -45,7 +47,9 @@ fn step(
     line: Line,
     bench: &mut Bench,
     command: &Command<Vec<u8>, Vec<bool>>,
-) -> anyhow::Result<()> {
+) -> anyhow::Result<()>
+    ensures { bench.new.ring.places.capacity ≡ bench.old.ring.places.capacity }
+{
     let answer = Said(bench.perform(command));
     let (first, second) = bench.slices();
     let slices = Slices(first, second);
@@ -62,7 +66,9 @@ fn steps<'a>(
     rt: &HostRuntime,
     lines: &mut Lines<'a>,
     bench: &mut Bench,
-) -> anyhow::Result<Option<Line<'a>>> {
+) -> anyhow::Result<Option<Line<'a>>>
+    ensures { bench.new.ring.places.capacity ≡ bench.old.ring.places.capacity }
+{
     for line in lines.by_ref() {
         match parse(rt.alloc(), line.text) {
             Err(error) => skip(rt, line, error.mistake()?)?,

@@ -5,7 +5,7 @@ use Rattle.std.proofs.lemmas.Bool.Decides.{nat_tests}
 use Rattle.script.specs.Text.{number_after, at_most}
 
 -- more digits never make it smaller
-too_large : (max n : ℕ) (cs : List ℕ) → max < n → at_most max (number_after n cs) ≡ None
+pub too_large : (max n : ℕ) (cs : List ℕ) → max < n → at_most max (number_after n cs) ≡ None
 unfolding number_after
 too_large max n [] h = grind (arith, nat_tests)
 too_large max n (c ∷ cs) h = let more = too_large max (n * 10 + (c - 48)) cs (omega arith) in grind (arith, nat_tests)

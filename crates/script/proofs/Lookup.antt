@@ -21,14 +21,24 @@ module _ {A : Type 0} where
   abbrev pub ascii_words : List (List ℕ × A) → Bool
   ascii_words rows = list_all (λ row. ascii row.0) rows
 
-  absent : (rows : List (List ℕ × A)) (w : List ℕ) → ascii_words rows ≡ true → ¬ (IsUtf8 w) → None ≡ lookup rows w
-  absent [] w e h = refl
-  absent (row ∷ rows) w e h =
+  -- a word that no row has
+  abbrev pub Absent : List (List ℕ × A) → List ℕ → Type 0
+  Absent [] w = Unit {0}
+  Absent (row ∷ rows) w = (w ≡ row.0 → ⊥) × Absent rows w
+
+  pub lookup_absent : (rows : List (List ℕ × A)) (w : List ℕ) → Absent rows w → None ≡ lookup rows w
+  lookup_absent [] w a = refl
+  lookup_absent (row ∷ rows) w a =
+      let other = false_from_ne_true (bytes_eq w row.0) (λ same. a.0 ((bytes_eq-Decides w row.0).0 same)) in
+      lookup_absent rows w a.1 ∙ sym (cond-false (bytes_eq w row.0) (Some row.1) (lookup rows w) other)
+
+  absent_there : (rows : List (List ℕ × A)) (w : List ℕ) → ascii_words rows ≡ true → ¬ (IsUtf8 w) → Absent rows w
+  absent_there [] w e h = tt
+  absent_there (row ∷ rows) w e h =
       let both = and_parts (ascii row.0) (ascii_words rows) e in
-      let other = false_from_ne_true (bytes_eq w row.0) (λ same. h (subst IsUtf8 (sym ((bytes_eq-Decides w row.0).0 same)) (IsUtf8-from_ascii row.0 (IsAscii-from_test row.0 both.0)))) in
-      absent rows w both.1 h ∙ sym (cond-false (bytes_eq w row.0) (Some row.1) (lookup rows w) other)
+      (λ same. h (subst IsUtf8 (sym same) (IsUtf8-from_ascii row.0 (IsAscii-from_test row.0 both.0))), absent_there rows w both.1 h)
 
   -- the two last facts are what `from_utf8` and `ok` ensure
   pub lookup_no_text : {E : Type 0} (V : E → Type 0) (rows : List (List ℕ × A)) (w : List ℕ) (t : Result (Bor (List ℕ)) E) → ascii_words rows ≡ true → MatchResult t (λ x. (x.now ≡ w) × IsUtf8 w) (λ e. ¬ (IsUtf8 w) × V e) → None ≡ result_ok t → None ≡ lookup rows w
   lookup_no_text V rows w (Ok x) e text none = cc
-  lookup_no_text V rows w (Err x) e text none = absent rows w e text.0
+  lookup_no_text V rows w (Err x) e text none = lookup_absent rows w (absent_there rows w e text.0)

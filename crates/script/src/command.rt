@@ -1,5 +1,6 @@
 // What a line can ask for.
-use places::End;
+pub use crate::error::Mistake;
+pub use places::End;
 
 // The calls that take no number.
 #[derive(Clone, Copy, Debug, PartialEq, Eq)]

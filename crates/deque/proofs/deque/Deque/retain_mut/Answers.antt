@@ -1,7 +1,7 @@
 use Rattle.std.proofs.Common.{◌≡◌, ℕ, ◌+◌, ◌≤◌, min, List, ◌++◌, length, take, drop, None, fold, Option, sym, ap, ◌∙◌, arith, length-append, take_at, drop_at, rules}
 use Rattle.std.proofs.lemmas.Bool.{cond-false, le-ltb}
 use Rattle.fault.specs.declared.Fault.{Fault}
-use Rattle.fault.specs.Refusing.{unless, answer}
+use Rattle.fault.specs.Refusing.{unless}
 use Rattle.predicates.specs.Showing.{showings, after}
 use Rattle.deque.specs.Ring.{contents, lay}
 use Rattle.deque.specs.Refusals as refusal
@@ -41,7 +41,7 @@ returns g c =
     let goes : drop k (contents p ys) ≡ rest ws = ap (drop k) list ∙ drop_at (kept ws) (rest ws) k (sym number) in
     let len : min k p.len ≡ length (kept ws) = omega arith in
     record {
-      result = c.truncate.ensures.result ∙ ap (λ n. answer (Refused n) (length (drop k (contents p ys)))) long ∙ ap (λ (l : List T). answer (Refused (length xs)) (length l)) goes;
+      result = search (rules, c.truncate.ensures.result, long, goes);
       places = c.truncate.ensures.places ∙ ap (λ n. unless (Refused n) p (moves.truncate k p)) long ∙ ap (λ m. unless (Refused (length xs)) p (placed p p.front m)) len;
       slots = is ∙ ap (λ o. unless o xs (lay p xs all)) (sym none);
       list =
