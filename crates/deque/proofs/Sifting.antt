@@ -23,8 +23,8 @@ module _ {S T : Type 0} (p : Places) (rule : S → T → Shown S T) (slots₀ : 
     pub list : slots ≡ lay p slots₀ (kept (shown cur) ++ (rest (shown cur) ++ drop cur (contents p slots₀)))
     pub state : s ≡ after rule s₀ (take cur (contents p slots₀))
 
-  pub sifting_at : (slots slots' : List T) (s : S) (idx idx' cur : ℕ) → slots' ≡ slots → idx' ≡ idx → Sifting slots s idx cur → Sifting slots' s idx' cur
-  sifting_at slots slots' s idx idx' cur p q h = rw (p, q) h
+  pub sifting_at : (slots slots' : List T) (s s' : S) (idx idx' cur cur' : ℕ) → slots' ≡ slots → s' ≡ s → idx' ≡ idx → cur' ≡ cur → Sifting slots s idx cur → Sifting slots' s' idx' cur'
+  sifting_at slots slots' s s' idx idx' cur cur' p q r t h = rw (p, q, r, t) h
 
 module _ {S T : Type 0} (p : Places) (rule : S → T → Shown S T) (slots₀ : List T) (s₀ : S) (ok : Sound p) (room : p.capacity ≤ length slots₀) where
   n : length (contents p slots₀) ≡ p.len

@@ -23,15 +23,22 @@ impl Deque {
         ensures slots { let p = self.now.places in let xs = slots.old in let ws = showings P.rule (P.state predicate.old) (contents p xs) in slots.new ≡ writes.retain (kept ws) (rest ws) p xs }
         ensures predicate { let s = P.state predicate.old in P.state predicate.new ≡ after P.rule s (contents self.now.places slots.old) }
     {
+        let len = self.places.len;
         let mut idx = 0;
-        for cur in 0..self.places.len {
+        // as long as every answer is yes, the items stay where they are
+        'leading: for cur in 0..len {
+            let at = self.slot(cur);
+            if !predicate.show(&mut slots[at]) {
+                break;
+            }
+            idx += 1;
+        }
+        // on from the item after the first no, if there was one
+        'others: for cur in len.min(idx + 1)..len {
             let at = self.slot(cur);
             let stays = predicate.show(&mut slots[at]);
             if stays {
-                // up to the first no, the items stay where they are
-                if idx < cur {
-                    slots.swap(self.slot(idx), at);
-                }
+                slots.swap(self.slot(idx), at);
                 idx += 1;
             }
         }
